@@ -1,0 +1,1 @@
+// Every function that a C host calls.

@@ -1,0 +1,4 @@
+pub mod Class
+pub mod Format
+pub mod Numbers
+pub mod Operand

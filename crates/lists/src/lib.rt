@@ -1,0 +1,1 @@
+// Folding of a list of binary64 patterns.

@@ -1,0 +1,1 @@
+// The partial step and the budgeted run, for x87.
