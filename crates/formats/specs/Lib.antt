@@ -1,4 +1,1 @@
-pub mod Class
-pub mod Format
-pub mod Numbers
 pub mod Operand

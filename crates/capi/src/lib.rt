@@ -1,1 +1,0 @@
-// Every function that a C host calls.

@@ -1,0 +1,128 @@
+-- Lists of step and run calls from one dividend, and what is claimed of every such list. Definitions only.
+use Prim.Native.Nat.{ℕ, _+_, _*_, _%_, _≤_, _<_}
+use mathlib.Core.Path.{_≡_}
+use mathlib.Core.Bool.{Bool, true, false, cond, _||_}
+use mathlib.Core.List.{List, [], _∷_, _++_}
+use lib.Dec.{eqb}
+use lib.IntN.{ℤ, _+ℤ_, _*ℤ_}
+use Rattle.definitions.specs.Class.{Value, Class, finite, valueOf, gap}
+use Rattle.definitions.specs.Format.{classOf, x87}
+use Rattle.definitions.specs.Numbers.{accepted}
+use Rattle.definitions.specs.declared.Kind.{Kind}
+use Rattle.definitions.specs.Division.{Reply, Divisor, by, dividendOf, divisorOf}
+use Rattle.definitions.specs.Remainder.{Remainder, remainder, quotientModulus}
+use Rattle.definitions.specs.Steps.{Link, chain, partsSum, mostSteps}
+use Rattle.definitions.specs.Reports.{Report, Lent, nothing, stepReport, runReport}
+
+-- "Demand 3's lists hold step and run calls ..., each call with its size, each run with its budget."
+pub data Call : Type 0 where
+  step : (lent : Lent) (size : ℕ) → Call
+  run : (lent : Lent) (size budget : ℕ) → Call
+
+-- what a call answers on patterns: the reports that the contracts of step and run cite
+unfoldable pub answer : Kind → ℕ → Call → ℕ → Report ℕ
+unfolding stepReport runReport
+answer κ y (step l n) x = stepReport l κ n x y
+answer κ y (run l n b) x = runReport l κ n b x y
+
+-- an accepted call of a list: what it was handed, and what it answered
+pub record Taken (A : Type 0) : Type 0 where
+  pub call : Call
+  pub handed : A
+  pub report : Report A
+
+-- "A refused call leaves that value, and nothing else changes it. A list ends at its first 0"
+abbrev pub goOn : {A : Type 0} → Bool → Bool → Taken A → (A → List (Taken A)) → List (Taken A)
+goOn true true t rest = t ∷ []
+goOn true false t rest = t ∷ rest (t .report .value)
+goOn false b t rest = rest (t .handed)
+
+-- "The first call is handed the first dividend, each later one the value of the last accepted call before it, or the first dividend if
+-- there was none." The accepted calls of a list, in order, where `f` answers each call.
+unfoldable pub taken : {A : Type 0} → (Call → A → Report A) → List Call → A → List (Taken A)
+taken f [] x = []
+taken f (c ∷ cs) x =
+    let r = f c x in
+    goOn (accepted (r .number)) (eqb (r .number) 0) (record { call = c; handed = x; report = r }) (taken f cs)
+
+-- what a list comes to: its last value and number
+unfoldable pub lastValue : {A : Type 0} → A → List (Taken A) → A
+lastValue x [] = x
+lastValue x (t ∷ ts) = lastValue (t .report .value) ts
+
+unfoldable pub lastNumber : {A : Type 0} → ℕ → List (Taken A) → ℕ
+lastNumber n [] = n
+lastNumber n (t ∷ ts) = lastNumber (t .report .number) ts
+
+-- "it has finished"
+unfoldable pub finished : {A : Type 0} → List (Taken A) → Bool
+finished [] = false
+finished (t ∷ ts) = eqb (t .report .number) 0 || finished ts
+
+-- "Its steps and quotient bits are those its calls report, added up, the bits modulo 8."
+unfoldable pub totalSteps : {A : Type 0} → List (Taken A) → ℕ
+totalSteps [] = 0
+totalSteps (t ∷ ts) = t .report .steps + totalSteps ts
+
+unfoldable pub totalQuotient : {A : Type 0} → List (Taken A) → ℕ
+totalQuotient [] = 0
+totalQuotient (t ∷ ts) = (t .report .quotient + totalQuotient ts) % quotientModulus
+
+-- "the true sum of the accepted calls' budgets"; a step counts as a budget of one
+abbrev pub budgetOf : Call → ℕ
+budgetOf (step l n) = 1
+budgetOf (run l n b) = b
+
+unfoldable pub totalBudget : {A : Type 0} → List (Taken A) → ℕ
+totalBudget [] = 0
+totalBudget (t ∷ ts) = budgetOf (t .call) + totalBudget ts
+
+-- "all accepted calls are runs of one size"
+abbrev pub IsRun : ℕ → Call → Type 0
+IsRun n (step l k) = ⊥
+IsRun n (run l k b) = k ≡ n
+
+abbrev pub Runs : {A : Type 0} → ℕ → List (Taken A) → Type 0
+Runs n [] = Unit {0}
+Runs n (t ∷ ts) = IsRun n (t .call) × Runs n ts
+
+-- "lists with at least one accepted call"
+abbrev pub Some : {A : Type 0} → List A → Type 0
+Some [] = ⊥
+Some (a ∷ l) = Unit {0}
+
+-- each call is handed the value of the one before it, the first one x; what it answered is the answer; and none comes after a 0
+abbrev pub Handed : {A : Type 0} → (Call → A → Report A) → A → List (Taken A) → Type 0
+Handed f x [] = Unit {0}
+Handed f x (t ∷ ts) =
+    (t .handed ≡ x) × (t .report ≡ f (t .call) x) × (eqb (t .report .number) 0 ≡ true → ts ≡ []) × Handed f (t .report .value) ts
+
+-- the steps that an accepted call is made of, and those of a list, on the values that its patterns stand for
+unfoldable pub callChain : Kind → Divisor → Call → Value → List Link
+unfolding chain
+callChain κ d (step l n) x = chain κ n 1 d x
+callChain κ d (run l n b) x = chain κ n b d x
+
+unfoldable pub listChain : {A : Type 0} → (A → Value) → Kind → Divisor → List (Taken A) → List Link
+unfolding callChain
+listChain v κ d [] = []
+listChain v κ d (t ∷ ts) = callChain κ d (t .call) (v (t .handed)) ++ listChain v κ d ts
+
+-- the value that an x87 pattern stands for
+abbrev pub valueAt : ℕ → Value
+valueAt x = dividendOf (classOf x87 x)
+
+-- Demand 3, of the list cs of calls from the dividend x by the divisor y: v and w are their values, and ts the list's accepted calls.
+pub record Demand3 (κ : Kind) (x y : ℕ) (v w : Value) (ts : List (Taken ℕ)) : Type 0 where
+  -- "Each call goes on from the value the last accepted one gave, and the list ends at its first finished call."
+  pub handed : Handed (answer κ y) x ts
+  -- "It takes at most one step if D is below 64, else at most D/32 rounded down, and once it has taken that many it has finished."
+  pub bound : totalSteps ts ≤ mostSteps (gap (v .count) (w .count))
+  pub ends : mostSteps (gap (v .count) (w .count)) ≤ totalSteps ts → finished ts ≡ true
+  -- "its last remainder is the one-call remainder of that dividend ..., bit for bit, and the quotient bits ... add up, modulo 8"
+  pub whole : finished ts ≡ true → remainder x87 κ x y ≡ record { number = 0; value = lastValue x ts; quotient = totalQuotient ts }
+  -- "the first dividend equals the present value plus the divisor times the sum of all whole quotient parts taken so far"
+  pub exact : valueOf v ≡ valueOf (valueAt (lastValue x ts)) +ℤ valueOf w *ℤ partsSum w (listChain valueAt κ (by (w .count)) ts)
+  -- "if all accepted calls are runs of one size, then the last value and number, and the added steps and quotient bits, are those of one run"
+  pub one : (n : ℕ) → Runs n ts → Some ts → answer κ y (run nothing n (totalBudget ts)) x
+      ≡ record { number = lastNumber 7 ts; value = lastValue x ts; quotient = totalQuotient ts; steps = totalSteps ts }

@@ -1,0 +1,59 @@
+-- Folding of a list of binary64 patterns by one divisor. Definitions only.
+use Prim.Native.Nat.{ℕ, _+_}
+use mathlib.Core.Bool.{Bool, true, false, not, cond, _&&_, _||_}
+use mathlib.Core.List.{List, [], _∷_, map}
+use lib.Dec.{eqb}
+use lib.ListN.{length}
+use Rattle.definitions.specs.Class.{Class}
+use Rattle.definitions.specs.Format.{classOf, binary64}
+use Rattle.definitions.specs.Numbers.{Tests, numberOf, isNan, isInfinite, isZero}
+use Rattle.definitions.specs.declared.Kind.{Kind}
+use Rattle.definitions.specs.Remainder.{Remainder, remainder}
+
+-- "lists of unequal length"; "A NaN divisor is 3 and a zero one 5, for the whole list"
+abbrev pub folding : ℕ → ℕ → ℕ → Class → Tests
+folding xs results quotients y =
+    record {
+      misfit = not (eqb results xs && eqb quotients xs);
+      missized = false;
+      anyUnsupported = false;
+      anyNan = isNan y;
+      infiniteDividend = false;
+      zeroDivisor = isZero y;
+      zeroSplit = false;
+      spent = false;
+      partial = false;
+    }
+
+-- "a NaN or infinite dividend gets the house NaN and byte 255"
+abbrev pub bad : ℕ → Bool
+bad x = isNan (classOf binary64 x) || isInfinite (classOf binary64 x)
+
+unfoldable pub resultAt : Kind → ℕ → ℕ → ℕ
+resultAt κ y x = remainder binary64 κ x y .value
+
+unfoldable pub byteAt : Kind → ℕ → ℕ → ℕ
+byteAt κ y x = cond (bad x) 255 (remainder binary64 κ x y .quotient)
+
+-- "the answer ... counts those places"
+unfoldable pub badPlaces : List ℕ → ℕ
+badPlaces [] = 0
+badPlaces (x ∷ xs) = cond (bad x) 1 0 + badPlaces xs
+
+-- what the lent memory holds later, and what the call answers
+pub record Folded : Type 0 where
+  pub number : ℕ
+  pub results : List ℕ
+  pub quotients : List ℕ
+  pub marked : ℕ
+
+unfoldable pub foldList : Kind → ℕ → List ℕ → List ℕ → List ℕ → Folded
+unfolding numberOf resultAt byteAt badPlaces
+foldList κ y xs results quotients =
+    let n = numberOf (folding (length xs) (length results) (length quotients) (classOf binary64 y)) in
+    record {
+      number = n;
+      results = cond (eqb n 0) (map (resultAt κ y) xs) results;
+      quotients = cond (eqb n 0) (map (byteAt κ y) xs) quotients;
+      marked = cond (eqb n 0) (badPlaces xs) 0;
+    }

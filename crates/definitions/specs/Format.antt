@@ -1,0 +1,134 @@
+-- The four formats, what their patterns stand for, and the pattern of a value. A pattern is one number; x87's is its 16-bit word
+-- times 2 ^ 64, plus its significand. Definitions only.
+use Prim.Native.Nat.{ℕ, zero, suc, _+_, _-_, _*_, _/_, _%_, _^_, _≤_}
+use mathlib.Core.Path.{_≡_}
+use mathlib.Core.Bool.{Bool, true, false, cond}
+use lib.Dec.{leb, eqb}
+use lib.IntN.{ℤ, pos, negsuc, _+ℤ_}
+use lib.Ieee.{size}
+use Rattle.digits.specs.Digits.{Digits}
+use Rattle.definitions.specs.Class.{Value, Class, unsupported, nan, infinite, finite}
+
+-- whether the leading digit of the significand is left out of the pattern or stands in it
+pub data Layout : Type 0 where
+  hidden explicit : Layout
+
+-- "Each format has its own precision, bias and smallest place, and these are named once, with the format." The smallest place is 2 ^ smallest.
+pub record Format : Type 0 where
+  pub precision : ℕ
+  pub bias : ℕ
+  pub smallest : ℤ
+  pub layout : Layout
+
+abbrev pub binary16 : Format
+binary16 = record { precision = 11; bias = 15; smallest = negsuc 23; layout = hidden }
+
+abbrev pub binary32 : Format
+binary32 = record { precision = 24; bias = 127; smallest = negsuc 148; layout = hidden }
+
+abbrev pub binary64 : Format
+binary64 = record { precision = 53; bias = 1023; smallest = negsuc 1073; layout = hidden }
+
+abbrev pub x87 : Format
+x87 = record { precision = 64; bias = 16383; smallest = negsuc 16444; layout = explicit }
+
+-- the largest exponent field, of infinities and NaNs
+abbrev pub topField : Format → ℕ
+topField f = 2 * f .bias + 1
+
+-- the weight of the significand's leading digit, of the exponent field, and of the sign
+abbrev pub leading : Format → ℕ
+leading f = 2 ^ (f .precision - 1)
+
+abbrev pub stored : Layout → ℕ → ℕ
+stored hidden p = 2 ^ (p - 1)
+stored explicit p = 2 ^ p
+
+abbrev pub fieldWeight : Format → ℕ
+fieldWeight f = stored (f .layout) (f .precision)
+
+abbrev pub signWeight : Format → ℕ
+signWeight f = fieldWeight f * (topField f + 1)
+
+-- all patterns are below this
+abbrev pub patterns : Format → ℕ
+patterns f = 2 * signWeight f
+
+-- What a sign, an exponent field e and the stored significand s stand for, in an interchange format.
+-- Field 0 has no leading digit and counts as field 1.
+abbrev pub interchangeClass : Format → Bool → ℕ → ℕ → Class
+interchangeClass f n e s =
+    cond (eqb e (topField f)) (cond (eqb s 0) (infinite n) nan)
+    (finite (record { negative = n; count = cond (eqb e 0) s ((leading f + s) * 2 ^ (e - 1)) }))
+
+-- "e = 0, J = 0: zero or denormal, s × 2^-16445. e from 1 to 32766, J = 1: s × 2^(e-16446). e = 32767, J = 1: infinity if the other
+-- 63 bits are zero, else NaN. All other patterns are unsupported, e = 0 with J = 1 among them."
+abbrev pub extendedClass : Format → Bool → ℕ → ℕ → Class
+extendedClass f n e s =
+    let J = leb (leading f) s in
+    cond (eqb e 0) (cond J unsupported (finite (record { negative = n; count = s })))
+    (cond J
+    (cond (eqb e (topField f)) (cond (eqb s (leading f)) (infinite n) nan) (finite (record { negative = n; count = s * 2 ^ (e - 1) })))
+    unsupported)
+
+abbrev pub fieldsClass : Layout → Format → Bool → ℕ → ℕ → Class
+fieldsClass hidden f n e s = interchangeClass f n e s
+fieldsClass explicit f n e s = extendedClass f n e s
+
+-- what a pattern stands for
+unfoldable pub classOf : Format → ℕ → Class
+classOf f b = fieldsClass (f .layout) f (leb (signWeight f) b) (b / fieldWeight f % (topField f + 1)) (b % fieldWeight f)
+
+-- the exponent field and the stored significand together, of a significand s that has dropped e low digits: a leading digit adds one to the field
+abbrev pub body : Format → Layout → ℕ → ℕ → ℕ
+body f hidden e s = e * leading f + s
+body f explicit e s = (e + cond (leb (leading f) s) 1 0) * fieldWeight f + s
+
+-- the pattern of a count: its leading digits, as many as the precision, and how many lie below them
+unfoldable pub magnitude : Format → ℕ → ℕ
+magnitude f n = let e = size n - f .precision in body f (f .layout) e (n / 2 ^ e)
+
+abbrev pub withSign : Format → Bool → ℕ → ℕ
+withSign f n b = cond n (signWeight f) 0 + b
+
+-- "House NaN: 7E00, 7FC00000, 7FF8000000000000, and x87 7FFF with C000000000000000"
+abbrev pub quiet : Layout → ℕ → ℕ
+quiet hidden h = h / 2
+quiet explicit h = h + h / 2
+
+abbrev pub houseNan : Format → ℕ
+houseNan f = topField f * fieldWeight f + quiet (f .layout) (leading f)
+
+abbrev pub infinity : Layout → ℕ → ℕ
+infinity hidden h = 0
+infinity explicit h = h
+
+-- the one pattern that a class is written as
+unfoldable pub patternOf : Format → Class → ℕ
+patternOf f unsupported = houseNan f
+patternOf f nan = houseNan f
+patternOf f (infinite n) = withSign f n (topField f * fieldWeight f + infinity (f .layout) (leading f))
+patternOf f (finite v) = withSign f (v .negative) (magnitude f (v .count))
+
+-- "The exponent of a nonzero value is the place of its leading one, also for a denormal"
+abbrev pub exponentOf : Format → ℕ → ℤ
+exponentOf f n = f .smallest +ℤ pos (size n - 1)
+
+-- the count that a value's exponent reaches the bias with has this many digits, and no finite value more
+abbrev pub reach : Format → ℕ
+reach f = 2 * f .bias + f .precision - 1
+
+-- "largest gap D": the largest finite value by the smallest one
+abbrev pub largestGap : Format → ℕ
+largestGap f = reach f - 1
+
+-- a count that the format holds: at most `precision` digits from the leading one to the last, and in range
+pub record Held (f : Format) (n : ℕ) : Type 0 where
+  pub digits : Digits (f .precision) n
+  pub range : size n ≤ reach f
+
+-- What the laws ask of a format. Each of the four is one: the smallest place is where the field 1 puts the last digit of a significand.
+pub record Regular (f : Format) : Type 0 where
+  pub digits : 2 ≤ f .precision
+  pub range : 1 ≤ f .bias
+  pub place : f .smallest +ℤ pos (f .bias + f .precision - 2) ≡ pos 0

@@ -1,0 +1,15 @@
+-- What a reader has to believe: document 01, definition by definition, in its order.
+pub mod Class
+pub mod Format
+pub mod Numbers
+pub mod Division
+pub mod Remainder
+pub mod Steps
+pub mod Reports
+pub mod Calls
+pub mod Cut
+pub mod Scale
+pub mod Fold
+pub mod Block
+pub mod Line
+pub mod Table

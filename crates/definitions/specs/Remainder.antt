@@ -1,0 +1,42 @@
+-- The remainder of two patterns, with its number and quotient bits. Definitions only.
+use Prim.Native.Nat.{ℕ, _%_}
+use mathlib.Core.Bool.{cond}
+use Rattle.definitions.specs.Class.{Class, finite}
+use Rattle.definitions.specs.Format.{Format, classOf, patternOf, houseNan}
+use Rattle.definitions.specs.Numbers.{numberOf, accepted, dividing}
+use Rattle.definitions.specs.declared.Kind.{Kind}
+use Rattle.definitions.specs.Division.{Reply, finish, dividendOf, divisorOf}
+
+-- "Quotient bits are those of |Q| modulo 8."
+abbrev pub quotientModulus : ℕ
+quotientModulus = 8
+
+abbrev pub shown : ℕ → ℕ
+shown q = q % quotientModulus
+
+-- what a refusal returns as its value
+abbrev pub refusedValue : Format → ℕ
+refusedValue f = houseNan f
+
+pub record Remainder : Type 0 where
+  pub number : ℕ
+  pub value : ℕ
+  pub quotient : ℕ
+
+-- an answer for an accepted number, the refusal's values otherwise
+abbrev pub remainderReport : Format → ℕ → Reply → Remainder
+remainderReport f n r =
+    record {
+      number = n;
+      value = cond (accepted n) (patternOf f (finite (r .value))) (refusedValue f);
+      quotient = cond (accepted n) (shown (r .whole)) 0;
+    }
+
+unfoldable pub remainderOf : Format → Kind → Class → Class → Remainder
+unfolding numberOf
+remainderOf f κ x y = remainderReport f (numberOf (dividing x y)) (finish κ (divisorOf y) (dividendOf x))
+
+-- the remainder of the pattern x by the pattern y
+unfoldable pub remainder : Format → Kind → ℕ → ℕ → Remainder
+unfolding remainderOf
+remainder f κ x y = remainderOf f κ (classOf f x) (classOf f y)

@@ -1,0 +1,84 @@
+-- What a step and a run on x87 patterns report. Definitions only.
+use Prim.Native.Nat.{ℕ}
+use mathlib.Core.Bool.{Bool, true, false, not, cond, _&&_}
+use lib.Dec.{leb, eqb}
+use Rattle.definitions.specs.Class.{Class, finite}
+use Rattle.definitions.specs.Format.{classOf, patternOf, x87}
+use Rattle.definitions.specs.Numbers.{Tests, numberOf, accepted, dividing}
+use Rattle.definitions.specs.declared.Kind.{Kind}
+use Rattle.definitions.specs.Division.{Reply, dividendOf, divisorOf}
+use Rattle.definitions.specs.Remainder.{shown, refusedValue}
+use Rattle.definitions.specs.Steps.{step, run}
+
+-- what a call says: its number, its value, the quotient bits and the steps
+pub record Report (A : Type 0) : Type 0 where
+  pub number : ℕ
+  pub value : A
+  pub quotient : ℕ
+  pub steps : ℕ
+
+-- a call of the library lends nothing; an exported one lends an answer block of some length
+pub data Lent : Type 0 where
+  nothing : Lent
+  block : (length : ℕ) → Lent
+
+abbrev pub blockLength : ℕ
+blockLength = 16
+
+abbrev pub fitting : Lent → Bool
+fitting nothing = true
+fitting (block l) = eqb l blockLength
+
+-- "size outside 32 to 63"
+abbrev pub sized : ℕ → Bool
+sized n = leb 32 n && leb n 63
+
+-- the tests of a call of size n that lends l, on operands x and y; `spent` and `partial` say how its reply ended
+abbrev pub calling : Lent → ℕ → Class → Class → Bool → Bool → Tests
+calling l n x y spent partial =
+    let t = dividing x y in
+    record {
+      misfit = not (fitting l);
+      missized = not (sized n);
+      anyUnsupported = t .anyUnsupported;
+      anyNan = t .anyNan;
+      infiniteDividend = t .infiniteDividend;
+      zeroDivisor = t .zeroDivisor;
+      zeroSplit = false;
+      spent = spent;
+      partial = partial;
+    }
+
+-- "Under 2 to 6 and 8, quotient bits, steps and exponent are 0"
+abbrev pub reportOf : ℕ → Reply → Report ℕ
+reportOf n r =
+    record {
+      number = n;
+      value = cond (accepted n) (patternOf x87 (finite (r .value))) (refusedValue x87);
+      quotient = cond (accepted n) (shown (r .whole)) 0;
+      steps = cond (accepted n) (r .steps) 0;
+    }
+
+abbrev stepReply : Kind → ℕ → Class → Class → Reply
+stepReply κ n x y = step κ n (divisorOf y) (dividendOf x)
+
+abbrev runReply : Kind → ℕ → ℕ → Class → Class → Reply
+runReply κ n b x y = run κ n b (divisorOf y) (dividendOf x)
+
+-- a step of size n on the patterns x and y
+unfoldable pub stepReport : Lent → Kind → ℕ → ℕ → ℕ → Report ℕ
+unfolding numberOf
+stepReport l κ n x y =
+    let a = classOf x87 x in
+    let b = classOf x87 y in
+    let r = stepReply κ n a b in
+    reportOf (numberOf (calling l n a b false (not (r .done)))) r
+
+-- a run of size n with a budget. "Answer 7 comes exactly if nothing is refused and the chain needs more steps than the budget."
+unfoldable pub runReport : Lent → Kind → ℕ → ℕ → ℕ → ℕ → Report ℕ
+unfolding numberOf
+runReport l κ n budget x y =
+    let a = classOf x87 x in
+    let b = classOf x87 y in
+    let r = runReply κ n budget a b in
+    reportOf (numberOf (calling l n a b (not (r .done)) false)) r

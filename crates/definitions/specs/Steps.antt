@@ -1,0 +1,104 @@
+-- The step of a size, the run with a budget, and the chain of steps, on counts. Definitions only.
+use Prim.Native.Nat.{ℕ, zero, suc, _+_, _-_, _*_, _/_, _%_, _^_}
+use mathlib.Core.Bool.{Bool, true, false, not, cond}
+use mathlib.Core.List.{List, [], _∷_}
+use lib.Dec.{ltb, eqb}
+use lib.IntN.{ℤ, pos, natAbs, _+ℤ_}
+use lib.Signed.{ltZ}
+use Rattle.definitions.specs.Class.{Value, gap, signed, combined}
+use Rattle.definitions.specs.declared.Kind.{Kind}
+use Rattle.definitions.specs.Division.{Reply, Divisor, unbounded, by, finish, finishBy}
+
+-- "If D < 64 it finishes as above."
+abbrev pub near : ℤ → Bool
+near D = ltZ D (pos 64)
+
+-- "QQ is |x|/|y|/2^(D−n) cut to a whole number, the value becomes x less QQ·2^(D−n) times y (signs as above), and the quotient part is
+-- QQ·2^(D−n)": here j = D − n. "Both kinds cut in a partial step. A zero partial value keeps x's sign and is still partial."
+unfoldable pub cutAt : ℕ → ℕ → Value → Reply
+cutAt j m x =
+    record {
+      done = false;
+      value = record { negative = x .negative; count = x .count % (m * 2 ^ j) };
+      whole = x .count / (m * 2 ^ j) * 2 ^ j;
+      steps = 1;
+    }
+
+-- the size that a partial step of a call of size n uses
+abbrev pub usedSize : ℤ → ℕ → ℕ
+usedSize D n = n
+
+unfoldable pub stepBy : Kind → ℕ → ℕ → Value → Reply
+unfolding finishBy cutAt
+stepBy κ n m x =
+    let D = gap (x .count) m in
+    let f = finishBy κ m x in
+    let c = cutAt (natAbs D - usedSize D n) m x in
+    cond (near D) f c
+
+-- "A step takes x, y, a size n and the kind." An infinite divisor finishes in one step.
+unfoldable pub step : Kind → ℕ → Divisor → Value → Reply
+unfolding stepBy finish
+step κ n unbounded x = finish κ unbounded x
+step κ n (by m) x = stepBy κ n m x
+
+-- r, and then s from r's value
+abbrev pub followed : Reply → Reply → Reply
+followed r s = record { done = s .done; value = s .value; whole = r .whole + s .whole; steps = r .steps + s .steps }
+
+-- "A run repeats steps of one size, with a budget of any 32-bit number. It leaves at the first step that finishes or at the spent budget"
+unfoldable pub run : Kind → ℕ → ℕ → Divisor → Value → Reply
+unfolding step
+run κ n zero d x = record { done = false; value = x; whole = 0; steps = 0 }
+run κ n (suc b) d x =
+    let s = step κ n d x in
+    let r = followed s (run κ n b d (s .value)) in
+    cond (s .done) s r
+
+-- one step of a chain: its dividend, and what it came to
+pub record Link : Type 0 where
+  pub size : ℕ
+  pub dividend : Value
+  pub reply : Reply
+
+-- the steps that a run takes, in order
+unfoldable pub chain : Kind → ℕ → ℕ → Divisor → Value → List Link
+unfolding step
+chain κ n zero d x = []
+chain κ n (suc b) d x =
+    let s = step κ n d x in
+    let ls = chain κ n b d (s .value) in
+    record { size = n; dividend = x; reply = s } ∷ cond (s .done) [] ls
+
+-- "each part with the combined sign of its step's operands": the sum of the exact parts of a chain by the divisor y
+abbrev pub signedPart : Value → Link → ℤ
+signedPart y l = signed (combined (l .dividend .negative) (y .negative)) (l .reply .whole)
+
+unfoldable pub partsSum : Value → List Link → ℤ
+partsSum y [] = pos 0
+partsSum y (l ∷ ls) = signedPart y l +ℤ partsSum y ls
+
+-- "at most one step if D is below 64, else at most D/32 rounded down"
+abbrev pub mostSteps : ℤ → ℕ
+mostSteps D = cond (near D) 1 (natAbs D / 32)
+
+-- how many steps of the size n the chain needs to finish; by `mostSteps` that budget is enough
+unfoldable pub needed : Kind → ℕ → ℕ → Value → ℕ
+unfolding run
+needed κ n m x = run κ n (mostSteps (gap (x .count) m)) (by m) x .steps
+
+-- "on a finished step C0, C3 and C1 are bits 2, 1 and 0 of that last step's quotient"; C2 says that the step was partial
+pub record Flags : Type 0 where
+  pub c0 : Bool
+  pub c1 : Bool
+  pub c2 : Bool
+  pub c3 : Bool
+
+abbrev pub flagsOf : Reply → Flags
+flagsOf r =
+    record {
+      c0 = eqb (r .whole / 4 % 2) 1;
+      c1 = eqb (r .whole % 2) 1;
+      c2 = not (r .done);
+      c3 = eqb (r .whole / 2 % 2) 1;
+    }

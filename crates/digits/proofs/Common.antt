@@ -1,0 +1,35 @@
+-- Quotient and remainder in a common place: a factor of both operands cancels. Assumes nothing.
+use mathlib.Core.Path.{_≡_, refl, sym, ap, _∙_}
+use mathlib.Core.Bool.{Bool, true, false, not}
+use Prim.Native.Nat.{ℕ, _+_, _-_, _*_, _/_, _%_, _^_, _≤_, _<_}
+use native.Mathlib.Nat.{mul-div-cancel, mul-mod-left, add-zero, mul-comm, mul-sub, mul-lt-mul-of-pos-right, mul-le-mul-right, eq-of-mul-eq-mul-right, mul-div-mul-right}
+use borrow.Author.Tests.{lt-ltb, le-ltb, eq-eqb, ne-eqb, eqb-false, eqb-true}
+use lib.Dec.{T, ltb, eqb, ltb→lt, nltb→le}
+use lib.Arith.{mod-mul, digits-div, digits-mod}
+
+-- what makes n with q divisors and r below one is its quotient and its remainder
+pub unique-div : (n q r m : ℕ) → r < m → n ≡ q * m + r → n / m ≡ q
+unique-div n q r m h e = ap (λ (k : ℕ). k / m) e ∙ digits-div q h
+
+pub unique-mod : (n q r m : ℕ) → r < m → n ≡ q * m + r → n % m ≡ r
+unique-mod n q r m h e = ap (λ (k : ℕ). k % m) e ∙ digits-mod q h
+
+pub mod-scale : (n m c : ℕ) → 0 < m → 0 < c → n * c % (m * c) ≡ n % m * c
+mod-scale n m c h g = mod-mul (n * c) h g ∙ simp (mul-div-cancel, mul-mod-left, add-zero)
+
+pub sub-scale : (a b c : ℕ) → a * c - b * c ≡ (a - b) * c
+sub-scale a b c = rw (mul-comm a c, mul-comm b c, mul-comm (a - b) c) (sym (mul-sub c a b))
+
+pub ltb-scale : (a b c : ℕ) → 0 < c → ltb (a * c) (b * c) ≡ ltb a b
+ltb-scale a b c h = go (ltb a b) (ltb→lt a b) (nltb→le a b)
+  where
+    go : (t : Bool) → (T t → a < b) → (T (not t) → b ≤ a) → ltb (a * c) (b * c) ≡ t
+    go true f g = lt-ltb (a * c) (b * c) (mul-lt-mul-of-pos-right (f tt) h)
+    go false f g = le-ltb (a * c) (b * c) (mul-le-mul-right c (g tt))
+
+pub eqb-scale : (a b c : ℕ) → 0 < c → eqb (a * c) (b * c) ≡ eqb a b
+eqb-scale a b c h = go (eqb a b) refl
+  where
+    go : (t : Bool) → eqb a b ≡ t → eqb (a * c) (b * c) ≡ t
+    go true e = eq-eqb (a * c) (b * c) (ap (λ (z : ℕ). z * c) (eqb-true a b e))
+    go false e = ne-eqb (a * c) (b * c) (λ q. eqb-false a b e (eq-of-mul-eq-mul-right c h a b q))

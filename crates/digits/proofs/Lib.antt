@@ -1,0 +1,4 @@
+pub mod Tests
+pub mod Size
+pub mod Digits
+pub mod Common

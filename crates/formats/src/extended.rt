@@ -1,0 +1,1 @@
+// x87's 80-bit operands

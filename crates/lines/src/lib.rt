@@ -1,1 +1,0 @@
-// One line of the line program.

@@ -1,1 +1,0 @@
-// Folding of a list of binary64 patterns.

@@ -1,1 +1,0 @@
-// The partial step and the budgeted run, for x87.

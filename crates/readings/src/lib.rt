@@ -1,1 +1,0 @@
-// The readings of document 01.
