@@ -103,11 +103,14 @@ abbrev pub infinity : Layout → ℕ → ℕ
 infinity hidden h = 0
 infinity explicit h = h
 
+abbrev pub infinityBody : Format → ℕ
+infinityBody f = topField f * fieldWeight f + infinity (f .layout) (leading f)
+
 -- the one pattern that a class is written as
 unfoldable pub patternOf : Format → Class → ℕ
 patternOf f unsupported = houseNan f
 patternOf f nan = houseNan f
-patternOf f (infinite n) = withSign f n (topField f * fieldWeight f + infinity (f .layout) (leading f))
+patternOf f (infinite n) = withSign f n (infinityBody f)
 patternOf f (finite v) = withSign f (v .negative) (magnitude f (v .count))
 
 -- "The exponent of a nonzero value is the place of its leading one, also for a denormal"

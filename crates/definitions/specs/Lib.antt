@@ -9,6 +9,7 @@ pub mod Reports
 pub mod Calls
 pub mod Cut
 pub mod Scale
+pub mod Answers
 pub mod Fold
 pub mod Block
 pub mod Line

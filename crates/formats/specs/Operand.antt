@@ -12,6 +12,7 @@ use Rattle.definitions.specs.Format.{Format, hidden, Regular, reach}
 use Rattle.formats.specs.declared.operand.Unpacked.{Unpacked}
 use Rattle.formats.specs.declared.operand.Operand.{Operand}
 use Rattle.formats.specs.declared.operand.Operand.the-variants.{Unsupported, Nan, Infinite, Zero, Finite}
+use Rattle.formats.specs.declared.operand.Trimmed.{Trimmed}
 use Rattle.formats.specs.declared.interchange.Shape.{Shape}
 
 -- a nonzero value with its leading one at bit 63, and its exponent, where the smallest place is 2 ^ s
@@ -47,9 +48,14 @@ unfoldable pub normalOf : Bool → ℕ → ℤ → Operand
 normalOf n a e =
     cond (eqb a 0) (Zero n) (Finite (record { negative = n; significand = a * 2 ^ leadingZeros 64 a; exponent = e -ℤ pos (leadingZeros 64 a) }))
 
+-- the leading p digits of a count, and how many lie below them
+abbrev pub trimmedOf : ℕ → ℕ → Trimmed
+trimmedOf p n = record { dropped = size n - p; significand = n / 2 ^ (size n - p) }
+
 -- what can be packed: a leading one at bit 63, no exponent below the smallest place, and none past the format's range
 pub record Packable (s : ℤ) (limit : ℕ) (u : Unpacked) : Type 0 where
   pub top : 2 ^ 63 ≤ u .significand
+  pub word : u .significand < 2 ^ 64
   pub above : T (leZ s (u .exponent))
   pub range : placeIn s (u .exponent) < limit
 

@@ -1,0 +1,184 @@
+-- The truncated remainder of binary32 and binary64 is the toolchain's own `rem` of IEEE 754 values, for every two patterns. Assumes nothing.
+use mathlib.Core.Path.{_≡_, refl, sym, ap, _∙_}
+use mathlib.Core.Logic.{_⊎_, inl, inr}
+use mathlib.Core.Bool.{Bool, true, false, cond}
+use Prim.Native.Nat.{ℕ, zero, suc, _+_, _-_, _*_, _/_, _%_, _^_, _<_}
+use native.Mathlib.Nat.{add-assoc, add-zero, mul-one, mul-comm, mul-assoc, mul-right-comm, mul-pos, mul-div-cancel, mod-lt, lt-of-lt-of-le, zero-lt-suc, eq-zero-or-pos}
+use native.Mathlib.Numerals.{add-one}
+use native.Mathlib.Omega.{arith}
+use borrow.Author.Tests.{ne-eqb}
+use lib.Dec.{leb, eqb, eqb·suc-zero}
+use lib.IntN.{negsuc}
+use lib.Arith.{mod-mul, digits-div}
+use lib.Pow.{pow-pos, pow-mono}
+use lib.Ieee as Ieee
+use lib.Ieee.{Float, fin, inf, prec, emax, low, up, down, size, hid, ones, top, odd, ofFields, ofBits, toBits, round, rem}
+use lib.Ieee.Digits.{size-lt}
+use lib.Ieee.Fits.{two, kept-lt, rem-fits, down-pos, up-pos}
+use lib.Ieee.Exact.{HasValue, odd-sign, round-exact}
+use lib.Ieee.Scale.{round-same}
+use lib.Ieee.Bits.{ofBits-toBits, ofBits-fits}
+use Rattle.digits.proofs.Tests.{clash, not-zero}
+use Rattle.digits.proofs.Common.{mod-scale}
+use Rattle.definitions.specs.Class.{Value, Class, unsupported, nan, infinite, finite}
+use Rattle.definitions.specs.Format.{Format, Held, Regular, hidden, binary32, binary64, interchangeClass, classOf, patternOf, magnitude}
+use Rattle.definitions.specs.declared.Kind.the-variants.{Truncated}
+use Rattle.definitions.specs.Division.{finishBy, finish}
+use Rattle.definitions.specs.Remainder.{remainderOf, remainder}
+use Rattle.laws.proofs.Regular.{regular32, regular64}
+use Rattle.laws.proofs.Held.{held-count}
+use Rattle.laws.proofs.RoundTrip.{read-held}
+use Rattle.laws.proofs.Division.{finish-held}
+
+-- the toolchain's two formats, as the definitions have them
+abbrev pub ours : Ieee.Format → Format
+ours g = record { precision = prec g; bias = emax g; smallest = negsuc (low g - 1); layout = hidden }
+
+pub ours32 : ours Ieee.binary32 ≡ binary32
+ours32 = refl
+
+pub ours64 : ours Ieee.binary64 ≡ binary64
+ours64 = refl
+
+-- a class and a value of the toolchain's are the same; a finite value is its count over 2 ^ low
+abbrev pub Stands : Ieee.Format → Class → Float → Type 0
+Stands g unsupported v = ⊥
+Stands g nan v = v ≡ Ieee.nan
+Stands g (infinite s) v = v ≡ inf s
+Stands g (finite x) v = HasValue v (x .negative) (x .count) (2 ^ low g)
+
+fields-stand : (g : Ieee.Format) (s : Bool) (e t : ℕ) → Stands g (interchangeClass (ours g) s e t) (ofFields g s e t)
+unfolding ofFields
+fields-stand g s zero t = rw (ne-eqb 0 (ones g) (λ z. omega arith)) (rw mul-one at (odd-sign (prec g) s t 0 (low g)))
+fields-stand g s (suc e) t = go (eqb (suc e) (ones g)) (eqb t 0)
+  where
+    go : (a z : Bool)
+        → Stands g (cond a (cond z (infinite s) nan) (finite (record { negative = s; count = cond (eqb (suc e) 0) t ((hid g + t) * 2 ^ (suc e - 1)) })))
+        (cond a (cond z (inf s) Ieee.nan) (odd (prec g) s (hid g + t) e (low g)))
+    go true true = refl
+    go true false = refl
+    go false z = let d : suc e - 1 ≡ e = omega arith in rw (eqb·suc-zero e, d) (odd-sign (prec g) s (hid g + t) e (low g))
+
+-- the exponent field, with the sign's digit taken off before or after
+field-is : (b h k : ℕ) → 0 < h → 0 < k → b % (h * k) / h ≡ b / h % k
+field-is b h k p q = rw (mul-comm h k, mod-mul b q p) (digits-div (b / h % k) (mod-lt b p))
+
+-- what a pattern stands for
+pub stands : (g : Ieee.Format) (b : ℕ) → Stands g (classOf (ours g) b) (ofBits g b)
+unfolding classOf ofBits
+stands g b =
+    rw (add-one (ones g), field-is b (hid g) (suc (ones g)) (pow-pos (prec g - 1)) (zero-lt-suc (ones g)))
+    (fields-stand g (leb (top g) b) (b / hid g % suc (ones g)) (b % hid g))
+
+-- how it is written, the house NaN among them
+pub writes : (g : Ieee.Format) (X : Class) (v : Float) → Stands g X v → patternOf (ours g) X ≡ toBits g v
+unfolding toBits patternOf magnitude
+writes g unsupported v p = absurd p
+writes g nan v p = rw p
+writes g (infinite s) v p = rw (p, add-one (ones g), add-zero (ones g * hid g))
+writes g (finite x) (fin s m e) p =
+    let n : m * up e * 2 ^ low g / down e ≡ x .count = ap (λ (z : ℕ). z / down e) (p .1) ∙ mul-div-cancel (x .count) (down-pos e) in
+    rw (n, p .0, add-one (ones g), add-assoc (cond (x .negative) (top g) 0) ((size (x .count) - prec g) * hid g) (x .count / 2 ^ (size (x .count) - prec g)))
+
+-- ---- the toolchain's remainder of two finite values
+
+-- one remainder in two units
+mod-units : (n m a b u c : ℕ) → 0 < m → 0 < b → 0 < u → 0 < c → n * u ≡ a * c → m * u ≡ b * c → n % m * u ≡ a % b * c
+mod-units n m a b u c pm pb pu pc e d = sym (mod-scale n m u pm pu) ∙ rw (e, d) (mod-scale a b c pb pc)
+
+-- a count that the format holds is not rounded
+round-held : (g : Ieee.Format) (s : Bool) (n : ℕ) → Held (ours g) n → HasValue (round g s n (2 ^ low g)) s n (2 ^ low g)
+round-held g s n h =
+    let k = size n - prec g in
+    let c = held-count (ours g) n h in
+    round-exact g s n (2 ^ low g) (n / 2 ^ k) k (pow-pos (low g)) (kept-lt (prec g) n)
+    (rw c (lt-of-lt-of-le (size-lt n) (pow-mono (omega (arith, h .range, two g)))))
+    (rw c refl)
+
+pub rem-stands : (g : Ieee.Format) (x y : Value) (v w : Float) → 0 < y .count → Held (ours g) (x .count) → Held (ours g) (y .count)
+    → Stands g (finite x) v → Stands g (finite y) w → Stands g (finite (finishBy Truncated (y .count) x .value)) (rem g v w)
+unfolding rem finishBy
+rem-stands g x y (fin s m e) (fin t zero d) b hx hy p q = let l = mul-pos b (down-pos d) in clash (omega (arith, q .1))
+rem-stands g x y (fin s m e) (fin t (suc n) d) b hx hy p q =
+    let L = 2 ^ low g in
+    let c = down e * down d in
+    let r = x .count % y .count in
+    let pc = mul-pos (down-pos e) (down-pos d) in
+    let u = mod-units (m * up e * down d) (suc n * up d * down e) (x .count) (y .count) L c
+    (mul-pos (mul-pos (zero-lt-suc n) (up-pos d)) (down-pos e)) b (pow-pos (low g)) pc
+    (mul-right-comm (m * up e) (down d) L ∙ ap (λ (z : ℕ). z * down d) (p .1) ∙ mul-assoc (x .count) (down e) (down d))
+    (mul-right-comm (suc n * up d) (down e) L ∙ ap (λ (z : ℕ). z * down e) (q .1) ∙ mul-right-comm (y .count) (down d) (down e) ∙ mul-assoc (y .count) (down e) (down d)) in
+    rw (eqb·suc-zero n, p .0, round-same g (x .negative) (m * up e * down d % (suc n * up d * down e)) c r L pc (pow-pos (low g)) u)
+    (round-held g (x .negative) r (finish-held (ours g) Truncated (y .count) x b hy hx))
+
+pub rem-zero : (g : Ieee.Format) (x y : Value) (v w : Float) → y .count ≡ 0 → Stands g (finite x) v → Stands g (finite y) w → rem g v w ≡ Ieee.nan
+unfolding rem
+rem-zero g x y (fin s m e) (fin t zero d) z p q = refl
+rem-zero g x y (fin s m e) (fin t (suc n) d) z p q =
+    let l = mul-pos (mul-pos (zero-lt-suc n) (up-pos d)) (pow-pos (low g)) in
+    clash (omega (arith, rw z at (q .1)))
+
+-- ---- by what the operands stand for
+
+nan-dividend : (f : Format) (Y : Class) → remainderOf f Truncated nan Y .value ≡ patternOf f nan
+unfolding remainderOf patternOf
+nan-dividend f unsupported = refl
+nan-dividend f nan = refl
+nan-dividend f (infinite t) = refl
+nan-dividend f (finite y) = refl
+
+infinite-dividend : (f : Format) (s : Bool) (Y : Class) → remainderOf f Truncated (infinite s) Y .value ≡ patternOf f nan
+unfolding remainderOf patternOf
+infinite-dividend f s unsupported = refl
+infinite-dividend f s nan = refl
+infinite-dividend f s (infinite t) = refl
+infinite-dividend f s (finite y) = refl
+
+nan-divisor : (f : Format) (x : Value) → remainderOf f Truncated (finite x) nan .value ≡ patternOf f nan
+unfolding remainderOf patternOf
+nan-divisor f x = refl
+
+infinite-divisor : (f : Format) (x : Value) (t : Bool) → remainderOf f Truncated (finite x) (infinite t) .value ≡ patternOf f (finite x)
+unfolding remainderOf finish
+infinite-divisor f x t = refl
+
+zero-divisor : (f : Format) (x y : Value) → y .count ≡ 0 → remainderOf f Truncated (finite x) (finite y) .value ≡ patternOf f nan
+unfolding remainderOf patternOf
+zero-divisor f x y e = rw e
+
+divided : (f : Format) (x y : Value) → 0 < y .count → remainderOf f Truncated (finite x) (finite y) .value ≡ patternOf f (finite (finishBy Truncated (y .count) x .value))
+unfolding remainderOf finish
+divided f x y h = rw (not-zero (y .count) h)
+
+abbrev ClassHeld : Format → Class → Type 0
+ClassHeld f X = (x : Value) → X ≡ finite x → Held f (x .count)
+
+class-agrees : (g : Ieee.Format) (X Y : Class) (v w : Float) → ClassHeld (ours g) X → ClassHeld (ours g) Y → Stands g X v → Stands g Y w
+    → remainderOf (ours g) Truncated X Y .value ≡ toBits g (rem g v w)
+unfolding rem
+class-agrees g unsupported Y v w hx hy p q = absurd p
+class-agrees g nan Y v w hx hy p q = rw p (nan-dividend (ours g) Y ∙ writes g nan Ieee.nan refl)
+class-agrees g (infinite s) Y v w hx hy p q = rw p (infinite-dividend (ours g) s Y ∙ writes g nan Ieee.nan refl)
+class-agrees g (finite x) unsupported v w hx hy p q = absurd q
+class-agrees g (finite x) nan (fin s m e) w hx hy p q = rw q (nan-divisor (ours g) x ∙ writes g nan Ieee.nan refl)
+class-agrees g (finite x) (infinite t) (fin s m e) w hx hy p q = rw q (infinite-divisor (ours g) x t ∙ writes g (finite x) (fin s m e) p)
+class-agrees g (finite x) (finite y) v w hx hy p q = go (eq-zero-or-pos (y .count))
+  where
+    go : (y .count ≡ 0) ⊎ (0 < y .count) → remainderOf (ours g) Truncated (finite x) (finite y) .value ≡ toBits g (rem g v w)
+    go (inl z) = zero-divisor (ours g) x y z ∙ writes g nan Ieee.nan refl ∙ ap (toBits g) (sym (rem-zero g x y v w z p q))
+    go (inr b) =
+        divided (ours g) x y b
+        ∙ writes g (finite (finishBy Truncated (y .count) x .value)) (rem g v w) (rem-stands g x y v w b (hx x refl) (hy y refl) p q)
+
+ours-regular : (g : Ieee.Format) → Regular (ours g)
+ours-regular Ieee.binary32 = regular32
+ours-regular Ieee.binary64 = regular64
+
+-- the pattern that the remainder is written as is the one that the toolchain writes for its own, a refusal's NaN too
+pub agrees-bits : (g : Ieee.Format) (x y : ℕ) → remainder (ours g) Truncated x y .value ≡ toBits g (rem g (ofBits g x) (ofBits g y))
+unfolding remainder
+agrees-bits g x y =
+    class-agrees g (classOf (ours g) x) (classOf (ours g) y) (ofBits g x) (ofBits g y) (read-held (ours g) (ours-regular g) x) (read-held (ours g) (ours-regular g) y) (stands g x) (stands g y)
+
+pub agrees : (g : Ieee.Format) (x y : ℕ) → ofBits g (remainder (ours g) Truncated x y .value) ≡ rem g (ofBits g x) (ofBits g y)
+agrees g x y = ap (ofBits g) (agrees-bits g x y) ∙ ofBits-toBits g (rem g (ofBits g x) (ofBits g y)) (rem-fits g (ofBits g x) (ofBits g y) (ofBits-fits g x))

@@ -1,0 +1,113 @@
+-- The exponent field and the stored significand of a finite pattern, and the significand that they stand for. Assumes nothing.
+use mathlib.Core.Path.{_≡_, refl, sym, _∙_, subst}
+use mathlib.Core.Bool.{Bool, true, false, not, cond}
+use Prim.Native.Nat.{ℕ, zero, suc, _+_, _-_, _*_, _≤_, _<_}
+use native.Mathlib.Omega.{arith}
+use borrow.Author.Tests.{ne-eqb, eq-eqb}
+use lib.Dec.{T, eqb, ltb, ltb→lt, nltb→le}
+use lib.Arith.{lt-of-le-ne}
+use lib.Pow.{pow-mono}
+use Rattle.digits.proofs.Tests.{clash}
+use Rattle.definitions.specs.Class.{Value, finite, infinite, nan}
+use Rattle.definitions.specs.Format.{Format, Regular, topField, leading, fieldWeight, fieldsClass, body, quiet, infinity}
+use Rattle.laws.proofs.Held.{Placed, leading-twice}
+use Rattle.laws.proofs.Layouts.{hiddenPart, number, weight, hidden-le, hidden-infinity, quiet-is, low-read, high-read, top-read, low-body, high-body, finite-low, finite-high}
+
+-- The field e and the stored significand t, with the significand s and the number j of dropped digits that they stand for:
+-- field 0 has no leading digit and drops none, and each other one has it.
+pub data Fields (f : Format) : ℕ → ℕ → ℕ → ℕ → Type 0 where
+  low : {t : ℕ} → t < leading f → Fields f 0 t 0 t
+  high : {j t : ℕ} → suc j < topField f → t < fieldWeight f → leading f ≤ hiddenPart (f .layout) (leading f) + t
+      → Fields f (suc j) t j (hiddenPart (f .layout) (leading f) + t)
+
+-- what they stand for
+pub fields-read : (f : Format) (n : Bool) {e t j s : ℕ} → Fields f e t j s → fieldsClass (f .layout) f n e t ≡ number n j s
+fields-read f n (low {t} h) = low-read (f .layout) f n t h
+fields-read f n (high {j} {t} h w g) = high-read (f .layout) f n j t h g
+
+-- how they are written
+pub fields-body : (f : Format) {e t j s : ℕ} → Fields f e t j s → body f (f .layout) j s ≡ e * fieldWeight f + t
+fields-body f (low {t} h) = low-body (f .layout) f t h ∙ omega arith
+fields-body f (high {j} {t} h w g) = high-body (f .layout) f j t refl g
+
+pub fields-field : (f : Format) {e t j s : ℕ} → Fields f e t j s → e < topField f + 1
+fields-field f (low h) = omega arith
+fields-field f (high h w g) = omega arith
+
+pub fields-rest : (f : Format) → Regular f → {e t j s : ℕ} → Fields f e t j s → t < fieldWeight f
+fields-rest f r (low h) = omega (arith, weight (f .layout) f r, hidden-le (f .layout) (leading f))
+fields-rest f r (high h w g) = w
+
+pub fields-placed : (f : Format) → Regular f → {e t j s : ℕ} → Fields f e t j s → Placed f j s
+fields-placed f r (low h) = record { small = omega (arith, leading-twice f r); leads = λ l. refl; range = omega arith }
+fields-placed f r (high h w g) =
+    record { small = omega (arith, leading-twice f r, weight (f .layout) f r); leads = λ l. omega arith; range = omega arith }
+
+-- the fields of a placed significand
+pub record Stored (f : Format) (j s : ℕ) : Type 0 where
+  pub field : ℕ
+  pub rest : ℕ
+  pub fields : Fields f field rest j s
+
+pub placed-fields : (f : Format) → Regular f → {j s : ℕ} → Placed f j s → Stored f j s
+placed-fields f r {j} {s} p = go (ltb s (leading f)) (ltb→lt s (leading f)) (nltb→le s (leading f))
+  where
+    go : (b : Bool) → (T b → s < leading f) → (T (not b) → leading f ≤ s) → Stored f j s
+    go true a b = record { field = 0; rest = s; fields = subst (λ (i : ℕ). Fields f 0 s i s) (sym (p .leads (a tt))) (low (a tt)) }
+    go false a b =
+        let c = hiddenPart (f .layout) (leading f) in
+        let g = b tt in
+        let d = p .small in
+        let u = hidden-le (f .layout) (leading f) in
+        let e : c + (s - c) ≡ s = omega arith in
+        record {
+          field = suc j;
+          rest = s - c;
+          fields =
+              subst (λ (i : ℕ). Fields f (suc j) (s - c) j i) e
+              (high (omega (arith, p .range)) (omega (arith, weight (f .layout) f r, leading-twice f r)) (omega arith));
+        }
+
+-- and the significand of the fields of a finite pattern
+pub record Significand (f : Format) (e t : ℕ) : Type 0 where
+  pub dropped : ℕ
+  pub significand : ℕ
+  pub fields : Fields f e t dropped significand
+
+not-finite : (b n : Bool) (v : Value) → cond b (infinite n) nan ≡ finite v → ⊥
+not-finite true n v e = clash (cc)
+not-finite false n v e = clash (cc)
+
+pub finite-fields : (f : Format) (n : Bool) (e t : ℕ) (v : Value) → fieldsClass (f .layout) f n e t ≡ finite v → e < topField f + 1 → t < fieldWeight f
+    → Significand f e t
+finite-fields f n zero t v c h w = record { dropped = 0; significand = t; fields = low (finite-low (f .layout) f n t v c w) }
+finite-fields f n (suc j) t v c h w =
+    let g = finite-high (f .layout) f n j t v c in
+    let top = top-read (f .layout) f n t g in
+    let no : suc j ≡ topField f → ⊥ = λ q. not-finite (eqb t (infinity (f .layout) (leading f))) n v (sym top ∙ rw q at c) in
+    record { dropped = j; significand = hiddenPart (f .layout) (leading f) + t; fields = high (lt-of-le-ne (omega arith) no) w g }
+
+-- ---- the largest field: infinities, and the house NaN
+leading-two : (f : Format) → Regular f → 2 ≤ leading f
+leading-two f r = pow-mono {i = 1} (omega arith)
+
+pub infinity-rest : (f : Format) → Regular f → infinity (f .layout) (leading f) < fieldWeight f
+infinity-rest f r = omega (arith, weight (f .layout) f r, hidden-infinity (f .layout) (leading f), leading-two f r)
+
+pub quiet-rest : (f : Format) → Regular f → quiet (f .layout) (leading f) < fieldWeight f
+quiet-rest f r =
+    omega (arith, weight (f .layout) f r, hidden-infinity (f .layout) (leading f), quiet-is (f .layout) (leading f), leading-two f r)
+
+pub infinity-read : (f : Format) (n : Bool) → fieldsClass (f .layout) f n (topField f) (infinity (f .layout) (leading f)) ≡ infinite n
+infinity-read f n =
+    let i = infinity (f .layout) (leading f) in
+    top-read (f .layout) f n i (omega (arith, hidden-infinity (f .layout) (leading f))) ∙ rw (eq-eqb i i refl)
+
+pub quiet-read : (f : Format) → Regular f → (n : Bool) → fieldsClass (f .layout) f n (topField f) (quiet (f .layout) (leading f)) ≡ nan
+quiet-read f r n =
+    let i = infinity (f .layout) (leading f) in
+    let q = quiet (f .layout) (leading f) in
+    let a = hidden-infinity (f .layout) (leading f) in
+    let b = quiet-is (f .layout) (leading f) in
+    let two = leading-two f r in
+    top-read (f .layout) f n q (omega arith) ∙ rw (ne-eqb q i (λ e. omega arith))

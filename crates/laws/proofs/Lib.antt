@@ -1,0 +1,10 @@
+pub mod Regular
+pub mod Gap
+pub mod Held
+pub mod Layouts
+pub mod Fields
+pub mod Pattern
+pub mod RoundTrip
+pub mod Range
+pub mod Division
+pub mod Agrees

@@ -1,0 +1,75 @@
+-- What a format holds is written and read back, and each finite pattern is the one that its value is written as. Assumes nothing.
+use mathlib.Core.Path.{_≡_, sym, ap, _∙_, subst}
+use mathlib.Core.Bool.{Bool, false}
+use Prim.Native.Nat.{ℕ, _+_, _-_, _*_, _/_, _%_, _^_, _<_}
+use native.Mathlib.Nat.{zero-add}
+use native.Mathlib.Omega.{arith}
+use lib.Dec.{leb}
+use lib.Ieee.{size}
+use Rattle.definitions.specs.Class.{Value, Class, nan, infinite, finite}
+use Rattle.definitions.specs.Format.{Format, Held, Regular, topField, fieldWeight, signWeight, patterns, classOf, withSign, patternOf, houseNan, infinity, quiet, leading}
+use Rattle.laws.proofs.Held.{held-placed, held-count, placed-held, magnitude-placed}
+use Rattle.laws.proofs.Layouts.{number}
+use Rattle.laws.proofs.Fields.{Fields, fields-read, fields-body, fields-field, fields-rest, fields-placed, placed-fields, finite-fields, infinity-rest, quiet-rest, infinity-read, quiet-read}
+use Rattle.laws.proofs.Pattern.{pack, pack-read, pack-small, packed, field-small, rest-small}
+
+same-count : (u v : Value) → finite u ≡ finite v → u .count ≡ v .count
+same-count u v e = cc
+
+module _ (f : Format) (r : Regular f) where
+  -- a value by its fields: how it is written, and how that is read
+  written : (n : Bool) {e t j s : ℕ} → Fields f e t j s → patternOf f (number n j s) ≡ pack f n e t
+  unfolding patternOf
+  written n {j = j} {s = s} c = ap (withSign f n) (magnitude-placed f r j s (fields-placed f r c) ∙ fields-body f c)
+
+  read : (n : Bool) {e t j s : ℕ} → Fields f e t j s → classOf f (pack f n e t) ≡ number n j s
+  read n {e} {t} c = pack-read f e t (fields-field f c) (fields-rest f r c) n ∙ fields-read f n c
+
+  -- each value that the format holds is one by its fields
+  by-fields : (P : Class → Type 0) (v : Value) → Held f (v .count) → ((e t j s : ℕ) → Fields f e t j s → P (number (v .negative) j s)) → P (finite v)
+  by-fields P v h all =
+      let j = size (v .count) - f .precision in
+      let c = placed-fields f r (held-placed f r (v .count) h) in
+      subst (λ (n : ℕ). P (finite (record { negative = v .negative; count = n }))) (held-count f (v .count) h)
+      (all (c .field) (c .rest) j (v .count / 2 ^ j) (c .fields))
+
+  pub read-written : (v : Value) → Held f (v .count) → classOf f (patternOf f (finite v)) ≡ finite v
+  read-written v h =
+      by-fields (λ c. classOf f (patternOf f c) ≡ c) v h (λ e t j s c. ap (classOf f) (written (v .negative) c) ∙ read (v .negative) c)
+
+  pub pattern-small : (v : Value) → Held f (v .count) → patternOf f (finite v) < patterns f
+  pattern-small v h =
+      by-fields (λ c. patternOf f c < patterns f) v h
+      (λ e t j s c. rw (written (v .negative) c) (pack-small f e t (fields-field f c) (fields-rest f r c) (v .negative)))
+
+  pub read-held : (b : ℕ) (v : Value) → classOf f b ≡ finite v → Held f (v .count)
+  unfolding classOf
+  read-held b v e =
+      let n = leb (signWeight f) b in
+      let c = finite-fields f n (b / fieldWeight f % (topField f + 1)) (b % fieldWeight f) v e (field-small f b) (rest-small f b) in
+      subst (Held f) (same-count (record { negative = n; count = c .significand * 2 ^ c .dropped }) v (sym (fields-read f n (c .fields)) ∙ e))
+      (placed-held f (c .dropped) (c .significand) (fields-placed f r (c .fields)))
+
+  pub written-read : (b : ℕ) (v : Value) → b < patterns f → classOf f b ≡ finite v → patternOf f (finite v) ≡ b
+  written-read b v h e =
+      let p = packed f b h in
+      let n = p .negative in
+      let k = sym (pack-read f (p .field) (p .rest) (p .small) (p .below) n) ∙ ap (classOf f) (p .is) ∙ e in
+      let c = finite-fields f n (p .field) (p .rest) v k (p .small) (p .below) in
+      ap (patternOf f) (sym k ∙ fields-read f n (c .fields)) ∙ written n (c .fields) ∙ p .is
+
+  -- infinities, and the house NaN
+  pub read-infinite : (n : Bool) → classOf f (patternOf f (infinite n)) ≡ infinite n
+  unfolding patternOf
+  read-infinite n = pack-read f (topField f) (infinity (f .layout) (leading f)) (omega arith) (infinity-rest f r) n ∙ infinity-read f n
+
+  pub infinite-small : (n : Bool) → patternOf f (infinite n) < patterns f
+  unfolding patternOf
+  infinite-small n = pack-small f (topField f) (infinity (f .layout) (leading f)) (omega arith) (infinity-rest f r) n
+
+  pub read-house-nan : classOf f (houseNan f) ≡ nan
+  read-house-nan =
+      (rw zero-add at (pack-read f (topField f) (quiet (f .layout) (leading f)) (omega arith) (quiet-rest f r) false)) ∙ quiet-read f r false
+
+  pub house-nan-small : houseNan f < patterns f
+  house-nan-small = rw zero-add at (pack-small f (topField f) (quiet (f .layout) (leading f)) (omega arith) (quiet-rest f r) false)

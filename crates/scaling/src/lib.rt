@@ -1,0 +1,2 @@
+// Scaling by a power of two.
+pub mod cut;
