@@ -1,2 +1,4 @@
 pub mod Normal
 pub mod Bounds
+pub mod Words
+pub mod Shapes

@@ -36,7 +36,7 @@ module _ (s : ℤ) (n : Bool) (r t c : ℕ) (word : r < 2 ^ 64) (same : r * 2 ^ 
       let k = size c - 1 in
       let z = leadingZeros 64 r in
       let e : c * 2 ^ 63 ≡ r * 2 ^ z * 2 ^ k =
-          sym same ∙ ap (λ (i : ℕ). r * 2 ^ i) (sym places ∙ omega arith) ∙ ap (λ (i : ℕ). r * i) (pow-add 2 z k) ∙ sym (mul-assoc r (2 ^ z) (2 ^ k)) in
+      sym same ∙ ap (λ (i : ℕ). r * 2 ^ i) (sym places ∙ omega arith) ∙ ap (λ (i : ℕ). r * i) (pow-add 2 z k) ∙ sym (mul-assoc r (2 ^ z) (2 ^ k)) in
       sym (ap (λ (i : ℕ). i / 2 ^ k) e ∙ mul-div-cancel (r * 2 ^ z) (pow-pos k))
 
   exponent-is : s +ℤ pos t -ℤ pos (leadingZeros 64 r) ≡ s +ℤ pos (size c - 1)
@@ -53,8 +53,12 @@ normal-operand s n zero t c word same =
     simp (eq-eqb c 0 e)
 normal-operand s n (suc r) t c word same =
     let some = zero-lt-suc r in
-    simp (not-zero (suc r) some, not-zero c (count-pos s n (suc r) t c word same some), significand-is s n (suc r) t c word same some,
-    exponent-is s n (suc r) t c word same some)
+    simp (
+      not-zero (suc r) some,
+      not-zero c (count-pos s n (suc r) t c word same some),
+      significand-is s n (suc r) t c word same some,
+      exponent-is s n (suc r) t c word same some,
+    )
 
 -- ---- a significand with its leading one at bit 63, t places above the smallest place
 module _ (a t : ℕ) (top : 2 ^ 63 ≤ a) (word : a < 2 ^ 64) where
@@ -71,6 +75,6 @@ module _ (a t : ℕ) (top : 2 ^ 63 ≤ a) (word : a < 2 ^ 64) where
   trim-is p kept h g e =
       let q : 63 + (t - kept) ≡ 63 - kept + t = omega arith in
       let u : a * 2 ^ t / 2 ^ 63 / 2 ^ (t - kept) ≡ a / 2 ^ (63 - kept) =
-          shr-shr (a * 2 ^ t) 63 (t - kept) ∙ ap (λ (i : ℕ). a * 2 ^ t / 2 ^ i) q ∙ ap (λ (i : ℕ). a * 2 ^ t / i) (pow-add 2 (63 - kept) t)
-          ∙ mul-div-mul-right a (2 ^ (63 - kept)) (pow-pos t) in
+      shr-shr (a * 2 ^ t) 63 (t - kept) ∙ ap (λ (i : ℕ). a * 2 ^ t / 2 ^ i) q ∙ ap (λ (i : ℕ). a * 2 ^ t / i) (pow-add 2 (63 - kept) t)
+      ∙ mul-div-mul-right a (2 ^ (63 - kept)) (pow-pos t) in
       rw (count-size, ← e, u)

@@ -70,6 +70,10 @@ PackableOperand s limit (Finite u) = Packable s limit u
 abbrev pub formatOf : Shape → Format
 formatOf h = record { precision = h .precision; bias = h .bias; smallest = h .smallest; layout = hidden }
 
+-- the shape of a format
+abbrev pub shapeOf : Format → Shape
+shapeOf f = record { precision = f .precision; bias = f .bias; smallest = f .smallest }
+
 -- a shape that the code takes: regular, and at most as wide as binary64
 pub record Sound (h : Shape) : Type 0 where
   pub regular : Regular (formatOf h)

@@ -1,1 +1,126 @@
-// The four formats
+// The interchange formats: the constants of each, named once, and the way from its patterns to operands and back.
+use crate::interchange::Shape;
+use crate::interchange::pack;
+use crate::interchange::unpack;
+use crate::operand::Operand;
+ghost use mathlib.Core.Path.{_≡_};
+ghost use Rattle.definitions.specs.Format.{binary16, binary32, binary64, classOf, patternOf, reach};
+ghost use Rattle.formats.specs.Operand.{operandOf, classIn, PackableOperand, shapeOf};
+
+// A value of binary16.
+pub struct Binary16 {
+    pub operand: Operand,
+}
+
+impl Binary16 {
+    pub const PRECISION: u32 = 11;
+
+    pub const BIAS: u32 = 15;
+
+    pub const SMALLEST: i32 = -24;
+
+    pub fn shape() -> Shape
+        ensures { λ r. ⌜ r ≡ shapeOf binary16 ⌝ }
+    {
+        Shape {
+            precision: Self::PRECISION,
+            bias: Self::BIAS,
+            smallest: Self::SMALLEST,
+        }
+    }
+
+    pub fn of_pattern(pattern: u16) -> Self
+        ensures { λ r. ⌜ r .operand ≡ operandOf (binary16 .smallest) (classOf binary16 pattern) ⌝ }
+    {
+        Self {
+            operand: unpack(Self::shape(), pattern as u64),
+        }
+    }
+
+    // Of a value that the format holds, as every remainder of its values is.
+    pub fn pattern(self) -> u64
+        requires { ⌜ PackableOperand (binary16 .smallest) (reach binary16) (self .operand) ⌝ }
+        ensures { λ r. ⌜ r ≡ patternOf binary16 (classIn (binary16 .smallest) (self .operand)) ⌝ }
+    {
+        let operand = self.operand;
+        pack(Self::shape(), operand)
+    }
+}
+
+// A value of binary32.
+pub struct Binary32 {
+    pub operand: Operand,
+}
+
+impl Binary32 {
+    pub const PRECISION: u32 = 24;
+
+    pub const BIAS: u32 = 127;
+
+    pub const SMALLEST: i32 = -149;
+
+    pub fn shape() -> Shape
+        ensures { λ r. ⌜ r ≡ shapeOf binary32 ⌝ }
+    {
+        Shape {
+            precision: Self::PRECISION,
+            bias: Self::BIAS,
+            smallest: Self::SMALLEST,
+        }
+    }
+
+    pub fn of_pattern(pattern: u32) -> Self
+        ensures { λ r. ⌜ r .operand ≡ operandOf (binary32 .smallest) (classOf binary32 pattern) ⌝ }
+    {
+        Self {
+            operand: unpack(Self::shape(), pattern as u64),
+        }
+    }
+
+    pub fn pattern(self) -> u64
+        requires { ⌜ PackableOperand (binary32 .smallest) (reach binary32) (self .operand) ⌝ }
+        ensures { λ r. ⌜ r ≡ patternOf binary32 (classIn (binary32 .smallest) (self .operand)) ⌝ }
+    {
+        let operand = self.operand;
+        pack(Self::shape(), operand)
+    }
+}
+
+// A value of binary64.
+pub struct Binary64 {
+    pub operand: Operand,
+}
+
+impl Binary64 {
+    pub const PRECISION: u32 = 53;
+
+    pub const BIAS: u32 = 1023;
+
+    pub const SMALLEST: i32 = -1074;
+
+    pub fn shape() -> Shape
+        ensures { λ r. ⌜ r ≡ shapeOf binary64 ⌝ }
+    {
+        Shape {
+            precision: Self::PRECISION,
+            bias: Self::BIAS,
+            smallest: Self::SMALLEST,
+        }
+    }
+
+    pub fn of_pattern(pattern: u64) -> Self
+        ensures { λ r. ⌜ r .operand ≡ operandOf (binary64 .smallest) (classOf binary64 pattern) ⌝ }
+    {
+        Self {
+            operand: unpack(Self::shape(), pattern),
+        }
+    }
+
+    pub fn pattern(self) -> u64
+        requires { ⌜ PackableOperand (binary64 .smallest) (reach binary64) (self .operand) ⌝ }
+        ensures { λ r. ⌜ r ≡ patternOf binary64 (classIn (binary64 .smallest) (self .operand)) ⌝ }
+    {
+        let operand = self.operand;
+        pack(Self::shape(), operand)
+    }
+}

@@ -1,5 +1,10 @@
 // The interchange formats: binary16, binary32 and binary64 are one function each way, over the format's shape.
-use crate::operand::{exponent_at, normalise, power_of_two, trim, Operand, Unpacked};
+use crate::operand::Operand;
+use crate::operand::Unpacked;
+use crate::operand::exponent_at;
+use crate::operand::normalise;
+use crate::operand::power_of_two;
+use crate::operand::trim;
 ghost use mathlib.Core.Path.{_≡_};
 ghost use Prim.Native.Nat.{_<_};
 ghost use Rattle.definitions.specs.Format.{classOf, patternOf, patterns, leading, topField, signWeight, withSign, houseNan, infinityBody, magnitude, reach};
@@ -53,7 +58,11 @@ pub fn unpack(shape: Shape, pattern: u64) -> Operand
     if field == 0 {
         return normalise(negative, fraction, exponent_at(shape.smallest, 0));
     }
-    normalise(negative, leading + fraction, exponent_at(shape.smallest, (field - 1) as u32))
+    normalise(
+        negative,
+        leading + fraction,
+        exponent_at(shape.smallest, (field - 1) as u32),
+    )
 }
 
 // A pattern without its sign, with the sign put on.

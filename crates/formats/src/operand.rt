@@ -71,7 +71,11 @@ pub fn trim(value: Unpacked, precision: u32, smallest: i32) -> Trimmed
     ensures { λ r. ⌜ r ≡ trimmedOf precision (countIn smallest (value .significand) (value .exponent)) ⌝ }
 {
     let place = place_of(value.exponent, smallest);
-    let kept = if place < precision { place } else { precision - 1 };
+    let kept = if place < precision {
+        place
+    } else {
+        precision - 1
+    };
     Trimmed {
         dropped: place - kept,
         significand: value.significand >> (63 - kept),

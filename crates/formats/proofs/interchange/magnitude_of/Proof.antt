@@ -24,11 +24,12 @@ trim-requires c κs =
     let s = c .before in
     let h = s .args .shape in
     let v = s .pre .1 in
-    rw (back s)
-    (record { top = v .top; word = v .word; above = v .above; range = omega (arith, v .range, s .pre .0 .narrow, s .pre .0 .short) },
-    omega (arith, smallest-small h (s .pre .0)),
-    omega (arith, s .pre .0 .regular .digits),
-    omega (arith, s .pre .0 .narrow))
+    rw (back s) (
+      record { top = v .top; word = v .word; above = v .above; range = omega (arith, v .range, s .pre .0 .narrow, s .pre .0 .short) },
+      omega (arith, smallest-small h (s .pre .0)),
+      omega (arith, s .pre .0 .regular .digits),
+      omega (arith, s .pre .0 .narrow),
+    )
 
 cast-result : tie.Need-cast-result
 cast-result c = search needs

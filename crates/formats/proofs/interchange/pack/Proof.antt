@@ -61,9 +61,11 @@ magnitude-of-requires c κs = (c .before .before .before .pre .0, packed c)
 with-sign-requires-3 : tie.Need-with-sign-requires-3
 with-sign-requires-3 c κs =
     let s = c .before .before .before .before in
-    let v = packed (c .before) in
-    (s .pre .0, rw (c .magnitude-of .ensures)
-    (magnitude-small (s .args .shape) (s .pre .0) _ (rw (count-size (c .before .before .operand3 .given .0 .0 .significand) _ (v .top) (v .word)) (v .range))))
+    let v = packed (c .before) in (
+      s .pre .0,
+      rw (c .magnitude-of .ensures)
+          (magnitude-small (s .args .shape) (s .pre .0) _ (rw (count-size (c .before .before .operand3 .given .0 .0 .significand) _ (v .top) (v .word)) (v .range))),
+    )
 
 returns : tie.Need-returns
 unfolding patternOf classIn

@@ -41,10 +41,12 @@ unfolding normalOf
 returns-2 c =
     let s = c .before in
     let a = s .args .significand in
-    simp (ne-eqb _ _ (c .if1 .left),
-    mod-eq-of-lt (shifted-small 64 a (pos-of-ne-zero (c .if1 .left)) (s .fits .significand .fits)),
-    sub-is (s .args .exponent) (pos (leadingZeros 64 a)) _ _ (toZ-ofZ w32 (s .args .exponent) (s .fits .exponent))
-    (toZ-pos w32 _ (omega (arith, under c))) (omega arith) (omega (arith, under c)))
+    simp (
+      ne-eqb _ _ (c .if1 .left),
+      mod-eq-of-lt (shifted-small 64 a (pos-of-ne-zero (c .if1 .left)) (s .fits .significand .fits)),
+      sub-is (s .args .exponent) (pos (leadingZeros 64 a)) _ _ (toZ-ofZ w32 (s .args .exponent) (s .fits .exponent))
+          (toZ-pos w32 _ (omega (arith, under c))) (omega arith) (omega (arith, under c)),
+    )
 
 pub normalise-spec : {M : Type 1} → statement M
 normalise-spec = tie.close (tie.spec returns cast-t6 shl-t7 cast-t8 sub-t9 returns-2)

@@ -1,0 +1,123 @@
+-- The answers of step and run on x87 patterns: their numbers, and what an accepted one tells. Assumes nothing.
+use mathlib.Core.Path.{_≡_, refl, sym, ap, subst}
+use mathlib.Core.Bool.{Bool, true, false, not, cond}
+use Prim.Native.Nat.{ℕ, zero, suc, _<_}
+use Rattle.digits.proofs.Tests.{clash, not-zero}
+use Rattle.definitions.specs.Class.{Value, finite}
+use Rattle.definitions.specs.Format.{Format, Held, classOf, patternOf, patterns, x87}
+use Rattle.definitions.specs.Numbers.{numberOf, checks, first, accepted}
+use Rattle.definitions.specs.declared.Kind.{Kind}
+use Rattle.definitions.specs.Division.{Reply, by, finish, dividendOf}
+use Rattle.definitions.specs.Steps as Steps
+use Rattle.definitions.specs.Steps.{followed}
+use Rattle.definitions.specs.Reports.{Report, Lent, fitting, sized, calling, reportOf, stepReport, runReport}
+use Rattle.definitions.specs.Calls.{Call, step, run, answer, budgetOf, valueAt}
+use Rattle.laws.proofs.Regular.{regular80}
+use Rattle.laws.proofs.RoundTrip.{read-written, read-held, written-read}
+use Rattle.laws.proofs.Division.{cut-held, finish-held}
+use Rattle.chains.proofs.Step.{step-cases}
+use Rattle.chains.proofs.Run.{run-one}
+use Rattle.chains.proofs.Lists.{sizeOf, openNumber, callReply, Tells, Telling}
+
+abbrev pub lentOf : Call → Lent
+lentOf (step l n) = l
+lentOf (run l n b) = l
+
+-- the number of a call c on two finite operands, the divisor not zero, where d says whether its reply has finished
+abbrev pub callNumber : Call → Bool → ℕ
+callNumber c d = cond (fitting (lentOf c)) (cond (sized (sizeOf c)) (cond d 0 (openNumber c)) 6) 9
+
+number-finite : (l : Lent) (n : ℕ) (v w : Value) (s p : Bool) → 0 < w .count
+    → numberOf (calling l n (finite v) (finite w) s p) ≡ cond (fitting l) (cond (sized n) (cond s 7 (cond p 1 0)) 6) 9
+unfolding numberOf checks first
+number-finite l n v w s p h = rw (not-zero (w .count) h) (go (fitting l) (sized n))
+  where
+    go : (f g : Bool) → _≡_ {A = ℕ} (cond (not f) 9 (cond (not g) 6 (cond s 7 (cond p 1 0)))) (cond f (cond g (cond s 7 (cond p 1 0)) 6) 9)
+    go true true = refl
+    go true false = refl
+    go false g = refl
+
+cond-not : (d : Bool) (k : ℕ) → cond (not d) k 0 ≡ cond d 0 k
+cond-not true k = refl
+cond-not false k = refl
+
+pub answer-is : (κ : Kind) (c : Call) (x y : ℕ) (v w : Value) → classOf x87 x ≡ finite v → classOf x87 y ≡ finite w → 0 < w .count
+    → answer κ y c x ≡ reportOf (callNumber c (callReply κ (w .count) c v .done)) (callReply κ (w .count) c v)
+unfolding answer stepReport runReport
+answer-is κ (step l n) x y v w ex ey p =
+    rw (ex, ey, run-one κ n (by (w .count)) v, number-finite l n v w false (not (Steps.step κ n (by (w .count)) v .done)) p, cond-not)
+answer-is κ (run l n b) x y v w ex ey p =
+    rw (ex, ey, number-finite l n v w (not (Steps.run κ n b (by (w .count)) v .done)) false p, cond-not)
+
+-- ---- values stay representable, so that a pattern is read as the value that was written
+
+pub step-held : (f : Format) (κ : Kind) (n m : ℕ) (x : Value) → 0 < m → Held f m → Held f (x .count) → Held f (Steps.step κ n (by m) x .value .count)
+unfolding finish
+step-held f κ n m x p hm hx =
+    step-cases (λ r. Held f (r .value .count)) κ n m x (λ e. finish-held f κ m x p hm hx) (λ e q l j i. cut-held f j m x p hm hx)
+
+pub run-held : (f : Format) (κ : Kind) (n b m : ℕ) (x : Value) → 0 < m → Held f m → Held f (x .count) → Held f (Steps.run κ n b (by m) x .value .count)
+unfolding Steps.run
+run-held f κ n zero m x p hm hx = hx
+run-held f κ n (suc b) m x p hm hx = go (s .done) (step-held f κ n m x p hm hx) (run-held f κ n b m (s .value) p hm)
+  where
+    s : Reply
+    s = Steps.step κ n (by m) x
+
+    r : Reply
+    r = Steps.run κ n b (by m) (s .value)
+
+    go : (t : Bool) → Held f (s .value .count) → (Held f (s .value .count) → Held f (r .value .count)) → Held f ((cond t s (followed s r)) .value .count)
+    go true h k = h
+    go false h k = k h
+
+-- the x87 pattern x is read as the value v, and v is written as x
+pub record Written (x : ℕ) (v : Value) : Type 0 where
+  pub read : classOf x87 x ≡ finite v
+  pub held : Held x87 (v .count)
+  pub pattern : patternOf x87 (finite v) ≡ x
+
+pub finite-written : (x : ℕ) (v : Value) → x < patterns x87 → classOf x87 x ≡ finite v → Written x v
+finite-written x v l e = record { read = e; held = read-held x87 regular80 x v e; pattern = written-read x87 regular80 x v l e }
+
+pub value-written : (v : Value) → Held x87 (v .count) → Written (patternOf x87 (finite v)) v
+value-written v h = record { read = read-written x87 regular80 v h; held = h; pattern = refl }
+
+-- a state of a list: a pattern of the value that it stands for
+abbrev pub State : ℕ → Type 0
+State x = Written x (valueAt x)
+
+pub written-value : {x : ℕ} {v : Value} → Written x v → valueAt x ≡ v
+written-value h = ap dividendOf (h .read)
+
+pub written-state : {x : ℕ} {v : Value} → Written x v → State x
+written-state {x} h = subst (Written x) (sym (written-value h)) h
+
+-- ---- what an accepted call tells
+
+module _ (κ : Kind) (m : ℕ) (p : 0 < m) (hm : Held x87 m) (c : Call) (x : ℕ) (h : State x) where
+  reply : Reply
+  reply = callReply κ m c (valueAt x)
+
+  reached : Written (patternOf x87 (finite (reply .value))) (reply .value)
+  unfolding reply
+  reached = value-written (reply .value) (run-held x87 κ (sizeOf c) (budgetOf c) m (valueAt x) p hm (h .held))
+
+  report-tells : (n : ℕ) → sized (sizeOf c) ≡ true → n ≡ cond (reply .done) 0 (openNumber c) → accepted n ≡ true
+      → Tells valueAt κ m c x (reportOf n reply) × State (reportOf n reply .value)
+  unfolding reply
+  report-tells n z e a =
+      rw a (record { size = z; number = e; reached = written-value reached; quotient = refl; steps = refl }, written-state reached)
+
+  number-tells : (f s : Bool) → sized (sizeOf c) ≡ s → let n = cond f (cond s (cond (reply .done) 0 (openNumber c)) 6) 9 in
+      accepted n ≡ true → Tells valueAt κ m c x (reportOf n reply) × State (reportOf n reply .value)
+  number-tells true true z a = report-tells (cond (reply .done) 0 (openNumber c)) z refl a
+  number-tells true false z a = clash (cc)
+  number-tells false s z a = clash (cc)
+
+pub answer-tells : (κ : Kind) (y : ℕ) (w : Value) → classOf x87 y ≡ finite w → 0 < w .count → Telling valueAt State κ (w .count) (answer κ y)
+unfolding reply
+answer-tells κ y w e p c x h =
+    subst (λ (r : Report ℕ). accepted (r .number) ≡ true → Tells valueAt κ (w .count) c x r × State (r .value))
+    (sym (answer-is κ c x y (valueAt x) w (h .read) e p))
+    (number-tells κ (w .count) p (read-held x87 regular80 y w e) c x h (fitting (lentOf c)) (sized (sizeOf c)) refl)

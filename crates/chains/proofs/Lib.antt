@@ -1,0 +1,9 @@
+pub mod Ring
+pub mod Step
+pub mod Reply
+pub mod Run
+pub mod Exact
+pub mod Lists
+pub mod Answer
+pub mod Demand3
+pub mod Spent

@@ -1,0 +1,194 @@
+-- Lists of calls, on whatever a state is: what each list comes to is one reply to its first dividend. Assumes nothing.
+use mathlib.Core.Path.{_≡_, refl, sym, ap, _∙_, subst}
+use mathlib.Core.Bool.{Bool, true, false, cond}
+use mathlib.Core.List.{List, [], _∷_, append-nil}
+use Prim.Native.Nat.{ℕ, _+_, _<_}
+use native.Mathlib.Nat.{add-zero, mod-add-mod, add-mod-mod, mod-mod}
+use native.Mathlib.Omega.{arith}
+use lib.Dec.{eqb}
+use lib.ListN.{length, length-append}
+use Rattle.digits.proofs.Tests.{clash}
+use Rattle.definitions.specs.Class.{Value}
+use Rattle.definitions.specs.Numbers.{accepted}
+use Rattle.definitions.specs.declared.Kind.{Kind}
+use Rattle.definitions.specs.Division.{Reply, by}
+use Rattle.definitions.specs.Remainder.{quotientModulus, shown}
+use Rattle.definitions.specs.Steps as Steps
+use Rattle.definitions.specs.Steps.{followed, chain, partsSum}
+use Rattle.definitions.specs.Reports.{Report, sized}
+use Rattle.definitions.specs.Calls.{Call, step, run, Taken, goOn, taken, lastValue, lastNumber, finished, totalSteps, totalQuotient, budgetOf, totalBudget, IsRun, Runs, Some, Handed, callChain, listChain}
+use Rattle.chains.proofs.Reply.{Sound, sound-none, sound-followed}
+use Rattle.chains.proofs.Run.{run-resumed, sound-run, chain-length}
+use Rattle.chains.proofs.Exact.{Exact, exact-none, exact-followed, chain-exact, parts-append}
+
+-- "Each call goes on from the value the last accepted one gave, and the list ends at its first finished call", whatever answers the calls.
+pub handed-taken : {A : Type 0} (f : Call → A → Report A) (cs : List Call) (x : A) → Handed f x (taken f cs x)
+unfolding taken
+handed-taken f [] x = tt
+handed-taken {A} f (c ∷ cs) x = go (accepted (f c x .number)) (eqb (f c x .number) 0) refl (handed-taken f cs)
+  where
+    go : (a z : Bool) → eqb (f c x .number) 0 ≡ z → ((y : A) → Handed f y (taken f cs y))
+        → Handed f x (goOn a z (record { call = c; handed = x; report = f c x }) (taken f cs))
+    go true true e h = (refl, refl, λ d. refl, tt)
+    go true false e h = (refl, refl, λ d. clash (cc), h (f c x .value))
+    go false z e h = h x
+
+-- a call's size, and the number that it gives where it does not finish; a step is a run with a budget of one
+abbrev pub sizeOf : Call → ℕ
+sizeOf (step l n) = n
+sizeOf (run l n b) = n
+
+abbrev pub openNumber : Call → ℕ
+openNumber (step l n) = 1
+openNumber (run l n b) = 7
+
+abbrev pub callReply : Kind → ℕ → Call → Value → Reply
+callReply κ m c x = Steps.run κ (sizeOf c) (budgetOf c) (by m) x
+
+call-chain : (κ : Kind) (m : ℕ) (c : Call) (x : Value) → callChain κ (by m) c x ≡ chain κ (sizeOf c) (budgetOf c) (by m) x
+unfolding callChain
+call-chain κ m (step l n) x = refl
+call-chain κ m (run l n b) x = refl
+
+-- What an accepted call c tells of the reply to the value of x, where `value` gives the value that a state stands for
+pub record Tells {A : Type 0} (value : A → Value) (κ : Kind) (m : ℕ) (c : Call) (x : A) (r : Report A) : Type 0 where
+  pub size : sized (sizeOf c) ≡ true
+  pub number : r .number ≡ cond (callReply κ m c (value x) .done) 0 (openNumber c)
+  pub reached : value (r .value) ≡ callReply κ m c (value x) .value
+  pub quotient : r .quotient ≡ shown (callReply κ m c (value x) .whole)
+  pub steps : r .steps ≡ callReply κ m c (value x) .steps
+
+-- What a list tells: `reply` is what it comes to
+pub record ListTells {A : Type 0} (value : A → Value) (κ : Kind) (w : Value) (x : A) (ts : List (Taken A)) : Type 0 where
+  pub reply : Reply
+  pub sound : Sound κ (w .count) (value x) reply
+  pub exact : Exact w (value x) (reply .value) (partsSum w (listChain value κ (by (w .count)) ts))
+  pub links : length (listChain value κ (by (w .count)) ts) ≡ reply .steps
+  pub reached : value (lastValue x ts) ≡ reply .value
+  pub done : finished ts ≡ reply .done
+  pub quotient : totalQuotient ts ≡ shown (reply .whole)
+  pub steps : totalSteps ts ≡ reply .steps
+  pub number : (n : ℕ) → Runs n ts → lastNumber 7 ts ≡ cond (reply .done) 0 7
+  pub size : (n : ℕ) → Runs n ts → Some ts → sized n ≡ true
+  pub one : (n : ℕ) → Runs n ts → reply ≡ Steps.run κ n (totalBudget ts) (by (w .count)) (value x)
+
+run-size : (n : ℕ) (c : Call) → IsRun n c → sizeOf c ≡ n
+run-size n (step l k) h = absurd h
+run-size n (run l k b) h = h
+
+run-open : (n : ℕ) (c : Call) → IsRun n c → openNumber c ≡ 7
+run-open n (step l k) h = absurd h
+run-open n (run l k b) h = refl
+
+number-done : (c : Call) (d : Bool) (n : ℕ) → n ≡ cond d 0 (openNumber c) → eqb n 0 ≡ d
+number-done c true n e = rw e
+number-done (step l k) false n e = rw e
+number-done (run l k b) false n e = rw e
+
+module _ {A : Type 0} (value : A → Value) (κ : Kind) (w : Value) (p : 0 < w .count) where
+  tells-none : (x : A) → ListTells value κ w x []
+  unfolding listChain partsSum lastValue finished totalQuotient totalSteps lastNumber totalBudget Steps.run
+  tells-none x =
+      record {
+        reply = record { done = false; value = value x; whole = 0; steps = 0 };
+        sound = sound-none κ (w .count) (value x);
+        exact = exact-none w (value x);
+        links = refl;
+        reached = refl;
+        done = refl;
+        quotient = refl;
+        steps = refl;
+        number = λ n h. refl;
+        size = λ n h s. absurd s;
+        one = λ n h. refl;
+      }
+
+  module _ (c : Call) (x : A) (r : Report A) (h : Tells value κ (w .count) c x r) where
+    own : Reply
+    own = callReply κ (w .count) c (value x)
+
+    own-chain : callChain κ (by (w .count)) c (value x) ≡ chain κ (sizeOf c) (budgetOf c) (by (w .count)) (value x)
+    own-chain = call-chain κ (w .count) c (value x)
+
+    own-exact : Exact w (value x) (own .value) (partsSum w (callChain κ (by (w .count)) c (value x)))
+    unfolding own
+    own-exact = rw own-chain (chain-exact κ (sizeOf c) (budgetOf c) w (value x) p)
+
+    own-links : length (callChain κ (by (w .count)) c (value x)) ≡ own .steps
+    unfolding own
+    own-links = ap length own-chain ∙ chain-length κ (sizeOf c) (budgetOf c) (by (w .count)) (value x)
+
+    own-done : eqb (r .number) 0 ≡ own .done
+    unfolding own
+    own-done = number-done c (own .done) (r .number) (h .number)
+
+    own-size : (n : ℕ) → IsRun n c → sized n ≡ true
+    own-size n g = subst (λ (k : ℕ). sized k ≡ true) (run-size n c g) (h .size)
+
+    -- a call that has finished ends the list
+    tells-last : own .done ≡ true → ListTells value κ w x (record { call = c; handed = x; report = r } ∷ [])
+    unfolding own listChain partsSum lastValue finished totalQuotient totalSteps lastNumber totalBudget
+    tells-last e =
+        record {
+          reply = own;
+          sound = sound-run κ (sizeOf c) (budgetOf c) (w .count) (value x) p (h .size);
+          exact = rw append-nil own-exact;
+          links = rw append-nil own-links;
+          reached = h .reached;
+          done = rw (own-done, e);
+          quotient = rw (add-zero, h .quotient) (mod-mod (own .whole) quotientModulus);
+          steps = omega (arith, h .steps);
+          number = λ n g. h .number ∙ ap (λ (k : ℕ). cond (own .done) 0 k) (run-open n c (g .0));
+          size = λ n g s. own-size n (g .0);
+          one = λ n g. rw (add-zero, run-size n c (g .0));
+        }
+
+    -- after one that has not, the list goes on from its value
+    tells-more : own .done ≡ false → (ts : List (Taken A)) → ListTells value κ w (r .value) ts → ListTells value κ w x (record { call = c; handed = x; report = r } ∷ ts)
+    unfolding own listChain partsSum lastValue finished totalQuotient totalSteps lastNumber totalBudget
+    tells-more e ts g =
+        record {
+          reply = followed own (g .reply);
+          sound = sound-followed κ (w .count) (value x) own (g .reply) p e (sound-run κ (sizeOf c) (budgetOf c) (w .count) (value x) p (h .size)) (rw (h .reached) at (g .sound));
+          exact = rw parts-append (exact-followed w (value x) (own .value) (g .reply .value) _ _ own-exact (rw (h .reached) at (g .exact)));
+          links = rw length-append (omega (arith, own-links, g .links));
+          reached = g .reached;
+          done = rw (own-done, e) (g .done);
+          quotient = rw (h .quotient, g .quotient, mod-add-mod, add-mod-mod);
+          steps = omega (arith, h .steps, g .steps);
+          number = λ n i. ap (λ (k : ℕ). lastNumber k ts) (h .number ∙ ap (λ (d : Bool). cond d 0 (openNumber c)) e ∙ run-open n c (i .0)) ∙ g .number n (i .1);
+          size = λ n i s. own-size n (i .0);
+          one = λ n i.
+              ap (followed own) (g .one n (i .1) ∙ ap (Steps.run κ n (totalBudget ts) (by (w .count))) (h .reached))
+              ∙ subst (λ (k : ℕ). followed own (Steps.run κ k (totalBudget ts) (by (w .count)) (own .value)) ≡ Steps.run κ k (budgetOf c + totalBudget ts) (by (w .count)) (value x))
+              (run-size n c (i .0)) (sym (run-resumed κ (sizeOf c) (budgetOf c) (totalBudget ts) (by (w .count)) (value x) e));
+        }
+
+-- the answers f to calls on states that are Good: an accepted call tells of its reply, and leads to such a state again
+abbrev pub Telling : {A : Type 0} → (A → Value) → (A → Type 0) → Kind → ℕ → (Call → A → Report A) → Type 0
+Telling {A} value Good κ m f = (c : Call) (x : A) → Good x → accepted (f c x .number) ≡ true → Tells value κ m c x (f c x) × Good (f c x .value)
+
+module _ {A : Type 0} (value : A → Value) (Good : A → Type 0) (κ : Kind) (w : Value) (f : Call → A → Report A) (p : 0 < w .count) (t : Telling value Good κ (w .count) f) where
+  pub list-good : (cs : List Call) (x : A) → Good x → Good (lastValue x (taken f cs x))
+  unfolding taken lastValue
+  list-good [] x g = g
+  list-good (c ∷ cs) x g = go (accepted (f c x .number)) (eqb (f c x .number) 0) refl (list-good cs)
+    where
+      go : (a z : Bool) → accepted (f c x .number) ≡ a → ((y : A) → Good y → Good (lastValue y (taken f cs y)))
+          → Good (lastValue x (goOn a z (record { call = c; handed = x; report = f c x }) (taken f cs)))
+      go true true e ih = t c x g e .1
+      go true false e ih = ih (f c x .value) (t c x g e .1)
+      go false z e ih = ih x g
+
+  pub list-tells : (cs : List Call) (x : A) → Good x → ListTells value κ w x (taken f cs x)
+  unfolding taken own
+  list-tells [] x g = tells-none value κ w p x
+  list-tells (c ∷ cs) x g = go (accepted (f c x .number)) (eqb (f c x .number) 0) refl refl (list-tells cs)
+    where
+      go : (a z : Bool) → accepted (f c x .number) ≡ a → eqb (f c x .number) 0 ≡ z → ((y : A) → Good y → ListTells value κ w y (taken f cs y))
+          → ListTells value κ w x (goOn a z (record { call = c; handed = x; report = f c x }) (taken f cs))
+      go true true e d ih = let h = t c x g e .0 in tells-last value κ w p c x (f c x) h (sym (own-done value κ w p c x (f c x) h) ∙ d)
+      go true false e d ih =
+          let h = t c x g e .0 in
+          tells-more value κ w p c x (f c x) h (sym (own-done value κ w p c x (f c x) h) ∙ d) (taken f cs (f c x .value)) (ih (f c x .value) (t c x g e .1))
+      go false z e d ih = ih x g

@@ -1,0 +1,1 @@
+-- This crate defines nothing: what it proves is stated by the crate `definitions`.
