@@ -3,7 +3,6 @@ use mathlib.Core.Path.{_≡_, refl, sym, ap, _∙_, subst}
 use mathlib.Core.Bool.{Bool, true, false, cond}
 use mathlib.Core.List.{List}
 use Prim.Native.Nat.{ℕ, _<_}
-use lib.ListN.{length}
 use Rattle.digits.proofs.Tests.{not-zero}
 use Rattle.definitions.specs.Class.{Value, finite}
 use Rattle.definitions.specs.Format.{classOf, patternOf, patterns, x87}
@@ -13,7 +12,7 @@ use Rattle.definitions.specs.Division.{Reply, by, finish}
 use Rattle.definitions.specs.Remainder.{shown, remainderOf, remainder}
 use Rattle.definitions.specs.Steps as Steps
 use Rattle.definitions.specs.Reports.{Report, nothing, sized, reportOf}
-use Rattle.definitions.specs.Calls.{Call, run, answer, Taken, taken, lastValue, totalSteps, totalBudget, listChain, valueAt, Demand3}
+use Rattle.definitions.specs.Calls.{Call, run, answer, Taken, taken, lastValue, totalBudget, valueAt, Demand3}
 use Rattle.chains.proofs.Reply.{sound-finished, sound-bound, sound-ends}
 use Rattle.chains.proofs.Lists.{handed-taken, ListTells, list-good, list-tells}
 use Rattle.chains.proofs.Answer.{answer-is, State, finite-written, written-value, written-state, answer-tells}
@@ -62,6 +61,7 @@ module _ (κ : Kind) (x y : ℕ) (w : Value) (cs : List Call) (sx : State x) (ey
       let m = w .count in
       record {
         handed = handed-taken (answer κ y) cs x;
+        counted = told .steps ∙ sym (told .links);
         bound = rw (told .steps) (sound-bound κ m (valueAt x) r (told .sound));
         ends = λ l. told .done ∙ sound-ends κ m (valueAt x) r (told .sound) (rw (told .steps) at l);
         whole = λ f.
@@ -74,15 +74,9 @@ module _ (κ : Kind) (x y : ℕ) (w : Value) (cs : List Call) (sx : State x) (ey
             ∙ (λ i. record { number = sym (told .number n rs) i; value = last (r .value) refl i; quotient = sym (told .quotient) i; steps = sym (told .steps) i });
       }
 
-pub demand3 : (κ : Kind) (x y : ℕ) (v w : Value) (cs : List Call) → x < patterns x87 → y < patterns x87 → classOf x87 x ≡ finite v
+pub demand3 : (κ : Kind) (x y : ℕ) (v w : Value) (cs : List Call) → x < patterns x87 → classOf x87 x ≡ finite v
     → classOf x87 y ≡ finite w → 0 < w .count → Demand3 κ x y v w (taken (answer κ y) cs x)
 unfolding calls
-demand3 κ x y v w cs lx ly ex ey p =
+demand3 κ x y v w cs lx ex ey p =
     let h = finite-written x v lx ex in
     subst (λ (u : Value). Demand3 κ x y u w (taken (answer κ y) cs x)) (written-value h) (claim κ x y w cs (written-state h) ey p)
-
--- The steps that a list reports are the links of its chain.
-pub list-steps : (κ : Kind) (x y : ℕ) (v w : Value) (cs : List Call) → x < patterns x87 → classOf x87 x ≡ finite v → classOf x87 y ≡ finite w → 0 < w .count
-    → let ts = taken (answer κ y) cs x in totalSteps ts ≡ length (listChain valueAt κ (by (w .count)) ts)
-unfolding calls
-list-steps κ x y v w cs lx ex ey p = let t = told κ x y w cs (written-state (finite-written x v lx ex)) ey p in t .steps ∙ sym (t .links)

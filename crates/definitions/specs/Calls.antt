@@ -4,6 +4,7 @@ use mathlib.Core.Path.{_≡_}
 use mathlib.Core.Bool.{Bool, true, false, cond, _||_}
 use mathlib.Core.List.{List, [], _∷_, _++_}
 use lib.Dec.{eqb}
+use lib.ListN.{length}
 use lib.IntN.{ℤ, _+ℤ_, _*ℤ_}
 use Rattle.definitions.specs.Class.{Value, Class, finite, valueOf, gap}
 use Rattle.definitions.specs.Format.{classOf, x87}
@@ -116,6 +117,8 @@ valueAt x = dividendOf (classOf x87 x)
 pub record Demand3 (κ : Kind) (x y : ℕ) (v w : Value) (ts : List (Taken ℕ)) : Type 0 where
   -- "Each call goes on from the value the last accepted one gave, and the list ends at its first finished call."
   pub handed : Handed (answer κ y) x ts
+  -- "says how many steps it took. That number is the number of steps in the defined chain."
+  pub counted : totalSteps ts ≡ length (listChain valueAt κ (by (w .count)) ts)
   -- "It takes at most one step if D is below 64, else at most D/32 rounded down, and once it has taken that many it has finished."
   pub bound : totalSteps ts ≤ mostSteps (gap (v .count) (w .count))
   pub ends : mostSteps (gap (v .count) (w .count)) ≤ totalSteps ts → finished ts ≡ true
