@@ -5,7 +5,7 @@ use mathlib.Core.Bool.{Bool, true, false, not, cond, _&&_, _||_}
 use Prim.Native.Nat.{ℕ, zero, suc, _+_, _-_, _*_, _/_, _%_, _^_, _≤_, _<_}
 use native.Mathlib.Nat.{le-trans, mod-lt, mod-le, mod-eq-of-lt, div-eq-of-lt, mul-one, mul-assoc, mul-div-mul-right, mod-add-div}
 use native.Mathlib.Omega.{arith}
-use borrow.Author.Tests.{ltb-true, ltb-false, eqb-true, eqb-false, le-ltb}
+use borrow.Author.Tests.{ltb-true, ltb-false, eqb-true, eqb-false, lt-ltb, le-ltb}
 use lib.Dec.{ltb, eqb}
 use lib.IntN.{ℤ, pos, negsuc, negℤ, _+ℤ_, _*ℤ_, negℤ-negℤ, negℤ-+ℤ, zero-*ℤ, *ℤ-comm, +ℤ-comm, +ℤ-negℤ-cancel}
 use Rattle.digits.specs.Digits.{Digits}
@@ -154,7 +154,7 @@ finer c v = record { negative = v .negative; count = v .count * c }
 abbrev pub finerReply : ℕ → Reply → Reply
 finerReply c r = record { done = r .done; value = finer c (r .value); whole = r .whole; steps = r .steps }
 
-up-scale : (κ : Kind) (q r m c : ℕ) → 0 < c → roundsUp κ q (r * c) (m * c) ≡ roundsUp κ q r m
+pub up-scale : (κ : Kind) (q r m c : ℕ) → 0 < c → roundsUp κ q (r * c) (m * c) ≡ roundsUp κ q r m
 up-scale Truncated q r m c h = refl
 up-scale Nearest q r m c h = rw (← mul-assoc 2 r c, ltb-scale m (2 * r) c h, eqb-scale m (2 * r) c h)
 
@@ -189,3 +189,13 @@ finish-far Nearest m x h l = kept Nearest m x (omega arith) (rw (le-ltb m (2 * x
 pub finish-again : (κ : Kind) (m : ℕ) (x : Value) → 0 < m → finishBy κ m (finishBy κ m x .value) ≡ finish κ unbounded (finishBy κ m x .value)
 finish-again Truncated m x h = kept Truncated m (finishBy Truncated m x .value) (truncated-below m x h) refl
 finish-again Nearest m x h = finish-far Nearest m (finishBy Nearest m x .value) h (nearest-half m x h .most)
+
+-- Whether a quotient goes up is one comparison: twice the left-over, and one more where the quotient is odd, against the divisor.
+pub rounds-up-once : (q r m : ℕ) → roundsUp Nearest q r m ≡ ltb m (r * 2 + q % 2)
+rounds-up-once q r m = go (ltb m (2 * r)) (eqb m (2 * r)) (eqb (q % 2) 1) refl refl refl
+  where
+    go : (past half odd : Bool) → ltb m (2 * r) ≡ past → eqb m (2 * r) ≡ half → eqb (q % 2) 1 ≡ odd → past || (half && odd) ≡ ltb m (r * 2 + q % 2)
+    go true half odd e f g = sym (lt-ltb m (r * 2 + q % 2) (omega (arith, ltb-true m (2 * r) e)))
+    go false true true e f g = sym (lt-ltb m (r * 2 + q % 2) (omega (arith, eqb-true m (2 * r) f, eqb-true (q % 2) 1 g)))
+    go false true false e f g = sym (le-ltb m (r * 2 + q % 2) (omega (arith, eqb-true m (2 * r) f, eqb-false (q % 2) 1 g)))
+    go false false odd e f g = sym (le-ltb m (r * 2 + q % 2) (omega (arith, ltb-false m (2 * r) e, eqb-false m (2 * r) f)))

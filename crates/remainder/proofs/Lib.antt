@@ -1,0 +1,5 @@
+pub mod Gap
+pub mod Link
+pub mod Settle
+pub mod Below
+pub mod TwoOperands

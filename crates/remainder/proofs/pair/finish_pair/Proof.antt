@@ -1,0 +1,99 @@
+-- `finish_pair` meets its contract: the gap decides which of the two laws holds. Assumes nothing.
+use mathlib.Core.Path.{_≡_, refl, sym, ap, _∙_, subst}
+use mathlib.Core.Bool.{Bool, true, false, not}
+use Prim.Native.Nat.{ℕ, _+_, _-_, _*_, _^_, _≤_, _<_, suc}
+use native.Mathlib.Nat.{mod-lt, mul-assoc, lt-of-lt-of-le}
+use native.Mathlib.Omega.{arith}
+use lib.Dec.{T}
+use lib.IntN.{ℤ, pos, negsuc, natAbs, _+ℤ_, _-ℤ_}
+use lib.Ieee.{size}
+use lib.Pow.{pow-add, pow-pos}
+use lib.Signed.{ltZ, mag, nonNeg, natAbs-le}
+use mir.Syntax.{w32}
+use mir.Val.{toZ, ofZ}
+use Rattle.definitions.specs.Class.{Value}
+use Rattle.definitions.specs.Division.{finishBy}
+use Rattle.definitions.specs.declared.Kind.{Kind}
+use Rattle.digits.proofs.Signed.{small-back, mag-sub}
+use Rattle.digits.proofs.Size.{size-pos}
+use Rattle.division.specs.Divided.{dividedOf}
+use Rattle.division.specs.declared.Divided.{Divided}
+use Rattle.formats.specs.Operand.{unpackedOf}
+use Rattle.formats.specs.declared.operand.Unpacked.{Unpacked}
+use Rattle.remainder.specs.Pair.{Ready, Unpacks, leftOf, settledOf, belowOf}
+use Rattle.remainder.proofs.TwoOperands.{gap-small, below-pair, settled-pair, not-negative}
+use borrow.Author.Needs.{needs}
+use Rattle.remainder.proofs.pair.finish_pair.Statement.{statement}
+use Rattle.remainder.proofs.pair.finish_pair.Tie as tie
+
+-- the gap that the code has found, read back as it was written
+module _ (g : tie.After-gap) where
+  difference-of : ℤ
+  difference-of = g .before .args .x .exponent -ℤ g .before .args .y .exponent
+
+  gap-back : toZ w32 (ofZ w32 (g .gap .result)) ≡ difference-of
+  unfolding difference-of
+  gap-back =
+      let x = g .before .args .x in
+      let y = g .before .args .y in
+      let small : mag (g .gap .result) < 2 ^ 21 = rw (g .gap .ensures) (omega (arith, gap-small x y (g .before .pre .0) (g .before .pre .1))) in
+      small-back (g .gap .result) small ∙ g .gap .ensures
+
+exponent-back : (s : tie.Start) → toZ w32 (ofZ w32 (s .args .y .exponent)) ≡ s .args .y .exponent
+exponent-back s = small-back (s .args .y .exponent) (omega (arith, s .pre .1 .small))
+
+gap-requires : tie.Need-gap-requires
+gap-requires c κs = search needs
+
+settle-below-requires : tie.Need-settle-below-requires
+settle-below-requires c κs = search needs
+
+returns : tie.Need-returns
+unfolding difference-of
+returns c s v w ux uy =
+    let g = c .before .before in
+    let a = g .before .args in
+    let below-zero = rw (gap-back g) at (c .before .if1 .taken) in
+    c .settle-below .ensures ∙ ap (belowOf (a .kind) (a .x) (a .y)) (gap-back g) ∙ below-pair (a .kind) s v w (a .x) (a .y) ux uy below-zero
+
+cast-divide : tie.Need-cast-divide
+unfolding difference-of
+cast-divide c =
+    let g = c .before in
+    let s = g .before in
+    let d = s .args .x .exponent -ℤ s .args .y .exponent in
+    let left = rw (gap-back g) at (c .if1 .left) in
+    let small = gap-small (s .args .x) (s .args .y) (s .pre .0) (s .pre .1) in
+    rw (gap-back g) (not-negative d left, record { fits = omega (arith, natAbs-le d {H = 2 ^ 19} small) })
+
+divide-requires : tie.Need-divide-requires
+divide-requires c κs = search needs
+
+settle-requires : tie.Need-settle-requires
+settle-requires c κs =
+    let s = c .before .before .before .before in
+    (rw (c .before .divide .ensures) (mod-lt _ (lt-of-lt-of-le (pow-pos 63) (s .pre .1 .top))), rw (exponent-back s) (s .pre .1 .small))
+
+returns-2 : tie.Need-returns-2
+unfolding difference-of
+returns-2 c s v w ux uy =
+    let g = c .before .before .before .before in
+    let a = g .before .args in
+    let d = a .x .exponent -ℤ a .y .exponent in
+    let left = rw (gap-back g) at (c .before .before .before .if1 .left) in
+    let quotient : c .before .before .divide .result ≡ dividedOf (a .x .significand) (a .y .significand) (natAbs d) = rw (gap-back g) at (c .before .before .divide .ensures) in
+    c .settle .ensures ∙ ap (settledOf (a .kind) (a .x .negative) (c .before .before .divide .result) (a .y .significand)) (exponent-back (g .before))
+    ∙ ap (λ (q : Divided). settledOf (a .kind) (a .x .negative) q (a .y .significand) (a .y .exponent)) quotient
+    ∙ settled-pair (a .kind) s v w (a .x) (a .y) ux uy left
+
+pub finish-pair-spec : {M : Type 1} → statement M
+finish-pair-spec =
+    tie.close
+    (tie.spec
+    gap-requires
+    settle-below-requires
+    returns
+    cast-divide
+    divide-requires
+    settle-requires
+    returns-2)
