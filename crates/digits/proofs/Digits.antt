@@ -54,3 +54,7 @@ digits-up p n m h dn dm u =
     let k = mod-le n m in
     digits-common p n m (m - n % m) dn (size m - p) (digits-dvd p m dm) (digits-lt p m) (omega arith) (omega arith)
     (λ c cn cm. dvd-sub (2 ^ c) cm (dvd-mod-iff (2 ^ c) cm .1 cn))
+
+-- more digits are allowed
+pub digits-more : (p q n : ℕ) → p ≤ q → Digits p n → Digits q n
+digits-more p q n h d = mod-eq-zero-of-dvd (2 ^ (size n - q)) (dvd-trans (2 ^ (size n - q)) (pow-dvd (size n - q) (size n - p) (omega arith)) (digits-dvd p n d))

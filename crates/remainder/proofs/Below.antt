@@ -24,7 +24,7 @@ use Rattle.formats.proofs.Normal.{normal-operand}
 use Rattle.laws.proofs.Division.{rounds-up-once}
 use Rattle.remainder.specs.declared.pair.Left.{Left}
 use Rattle.remainder.specs.Pair.{leftOf, belowOf, neighbours}
-use Rattle.remainder.proofs.Link.{lead, lead-top, lead-word, lead-exact}
+use Rattle.formats.proofs.Lead.{lead, lead-top, lead-word, lead-exact}
 
 module _ (s : ℤ) (neg : Bool) (n m : ℕ) (some : 0 < n) (dn : Digits 64 n) (more : 0 < m) (dm : Digits 64 m) (low : size n < size m) where
   v : Value
@@ -65,7 +65,7 @@ module _ (s : ℤ) (neg : Bool) (n m : ℕ) (some : 0 < n) (dn : Digits 64 n) (m
     unfolding t
     near =
         let e : n * 2 * 2 ^ 63 ≡ lead n * (2 * 2 ^ (size n - 1)) =
-            mul-right-comm n 2 (2 ^ 63) ∙ ap (λ (i : ℕ). i * 2) (sym (lead-exact n some dn)) ∙ mul-assoc (lead n) (2 ^ (size n - 1)) 2 ∙ ap (λ (i : ℕ). lead n * i) (mul-comm (2 ^ (size n - 1)) 2) in
+        mul-right-comm n 2 (2 ^ 63) ∙ ap (λ (i : ℕ). i * 2) (sym (lead-exact n some dn)) ∙ mul-assoc (lead n) (2 ^ (size n - 1)) 2 ∙ ap (λ (i : ℕ). lead n * i) (mul-comm (2 ^ (size n - 1)) 2) in
         sym (ltb-scale m (n * 2) (2 ^ 63) (pow-pos 63)) ∙ (λ i. ltb (divisor-is i) (e i))
         ∙ ap (λ (i : ℕ). ltb i (lead n * (2 * 2 ^ (size n - 1)))) (mul-assoc (lead m) 2 (2 ^ (size n - 1))) ∙ ltb-scale (lead m) (lead n) (2 * 2 ^ (size n - 1)) (let p = pow-pos (size n - 1) in omega arith)
 

@@ -3,3 +3,5 @@ pub mod Link
 pub mod Settle
 pub mod Below
 pub mod TwoOperands
+pub mod Judge
+pub mod Told

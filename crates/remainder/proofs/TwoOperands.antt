@@ -21,7 +21,7 @@ use Rattle.formats.specs.Operand.{unpackedOf}
 use Rattle.formats.specs.declared.operand.Unpacked.{Unpacked}
 use Rattle.remainder.specs.Pair.{Ready, Unpacks, leftOf, settledOf, belowOf}
 use Rattle.remainder.proofs.Gap.{difference, same-place}
-use Rattle.remainder.proofs.Link.{lead, lead-word, lead-exact}
+use Rattle.formats.proofs.Lead.{lead, lead-word, lead-exact}
 use Rattle.remainder.proofs.Settle.{settled}
 use Rattle.remainder.proofs.Below.{below}
 

@@ -1,8 +1,11 @@
 // The remainder of two finite values that are not zero. Everything is done on magnitudes, and the sign is put on at the end.
 // Only crates of this repository call these, with operands as `formats` unpacks them.
 use definitions::Kind;
-use division::{divide, Divided};
-use formats::operand::{normalise, Operand, Unpacked};
+use division::Divided;
+use division::divide;
+use formats::operand::Operand;
+use formats::operand::Unpacked;
+use formats::operand::normalise;
 ghost use mathlib.Core.Path.{_≡_};
 ghost use mathlib.Core.Bool.{Bool, cond, not};
 ghost use Prim.Native.Nat.{_<_, _^_};

@@ -1,0 +1,51 @@
+// The checks on two operands, before anything is divided.
+use definitions::Refusal;
+use formats::operand::Operand;
+use formats::operand::Unpacked;
+ghost use mathlib.Core.Path.{_≡_};
+ghost use Rattle.remainder.specs.Examined.{examinedOf};
+
+// What the checks make of a pair: a refusal; the dividend, to be returned as it is, since it is zero or the divisor infinite; or two
+// finite values to divide, neither of them zero.
+pub enum Examined {
+    Refused(Refusal),
+    Returned(Operand),
+    Pair(Unpacked, Unpacked),
+}
+
+// The order is document 01's: an unsupported operand, a NaN, an infinite dividend, a zero divisor.
+pub fn examine(x: Operand, y: Operand) -> Examined
+    ensures { λ r. ⌜ r ≡ examinedOf x y ⌝ }
+{
+    match x {
+        Operand::Unsupported => Examined::Refused(Refusal::Unsupported),
+        Operand::Nan => match y {
+            Operand::Unsupported => Examined::Refused(Refusal::Unsupported),
+            Operand::Nan => Examined::Refused(Refusal::Nan),
+            Operand::Infinite(_) => Examined::Refused(Refusal::Nan),
+            Operand::Zero(_) => Examined::Refused(Refusal::Nan),
+            Operand::Finite(_) => Examined::Refused(Refusal::Nan),
+        },
+        Operand::Infinite(_) => match y {
+            Operand::Unsupported => Examined::Refused(Refusal::Unsupported),
+            Operand::Nan => Examined::Refused(Refusal::Nan),
+            Operand::Infinite(_) => Examined::Refused(Refusal::Infinite),
+            Operand::Zero(_) => Examined::Refused(Refusal::Infinite),
+            Operand::Finite(_) => Examined::Refused(Refusal::Infinite),
+        },
+        Operand::Zero(_) => match y {
+            Operand::Unsupported => Examined::Refused(Refusal::Unsupported),
+            Operand::Nan => Examined::Refused(Refusal::Nan),
+            Operand::Infinite(_) => Examined::Returned(x),
+            Operand::Zero(_) => Examined::Refused(Refusal::ZeroDivisor),
+            Operand::Finite(_) => Examined::Returned(x),
+        },
+        Operand::Finite(a) => match y {
+            Operand::Unsupported => Examined::Refused(Refusal::Unsupported),
+            Operand::Nan => Examined::Refused(Refusal::Nan),
+            Operand::Infinite(_) => Examined::Returned(x),
+            Operand::Zero(_) => Examined::Refused(Refusal::ZeroDivisor),
+            Operand::Finite(b) => Examined::Pair(a, b),
+        },
+    }
+}
