@@ -2,7 +2,7 @@
 use mathlib.Core.Path.{_≡_, refl, sym, ap, _∙_}
 use mathlib.Core.Bool.{Bool, true, false, not}
 use Prim.Native.Nat.{ℕ, _+_, _-_, _*_, _/_, _%_, _^_, _≤_, _<_}
-use native.Mathlib.Nat.{mul-div-cancel, mul-mod-left, add-zero, mul-comm, mul-sub, mul-lt-mul-of-pos-right, mul-le-mul-right, eq-of-mul-eq-mul-right, mul-div-mul-right}
+use native.Mathlib.Nat.{mod-add-div, add-mul, mul-assoc, add-mul-mod-self-left, mul-div-cancel, mul-mod-left, add-zero, mul-comm, mul-sub, mul-lt-mul-of-pos-right, mul-le-mul-right, eq-of-mul-eq-mul-right, mul-div-mul-right}
 use borrow.Author.Tests.{lt-ltb, le-ltb, eq-eqb, ne-eqb, eqb-false, eqb-true}
 use lib.Dec.{T, ltb, eqb, ltb→lt, nltb→le}
 use lib.Arith.{mod-mul, digits-div, digits-mod}
@@ -33,3 +33,9 @@ eqb-scale a b c h = go (eqb a b) refl
     go : (t : Bool) → eqb a b ≡ t → eqb (a * c) (b * c) ≡ t
     go true e = eq-eqb (a * c) (b * c) (ap (λ (z : ℕ). z * c) (eqb-true a b e))
     go false e = ne-eqb (a * c) (b * c) (λ q. eqb-false a b e (eq-of-mul-eq-mul-right c h a b q))
+
+-- a factor's own remainder is enough
+pub mod-times : (q p c : ℕ) → q % c * p % c ≡ q * p % c
+mod-times q p c =
+    sym (ap (λ (n : ℕ). n * p % c) (sym (mod-add-div q c)) ∙ ap (λ (n : ℕ). n % c) (add-mul (q % c) (c * (q / c)) p ∙ ap (λ (n : ℕ). q % c * p + n) (mul-assoc c (q / c) p))
+    ∙ add-mul-mod-self-left (q % c * p) c (q / c * p))

@@ -1,0 +1,45 @@
+-- Operands that stand for x87 values: they are within the code's range, and what a step leaves is one again. Assumes nothing.
+use mathlib.Core.Path.{_≡_, refl, sym, ap, _∙_, subst}
+use Prim.Native.Nat.{ℕ, _-_, _^_, _<_}
+use lib.IntN.{ℤ, pos, _-ℤ_, _+ℤ_}
+use lib.Ieee.{size}
+use Rattle.definitions.specs.Class.{Value, Class, finite, gap}
+use Rattle.definitions.specs.Format.{Format, Held, x87, exponentOf}
+use Rattle.definitions.specs.Division.{dividendOf}
+use Rattle.formats.specs.declared.operand.Unpacked.{Unpacked}
+use Rattle.formats.specs.declared.operand.Operand.{Operand}
+use Rattle.formats.specs.declared.operand.Operand.the-variants.{Zero, Finite}
+use Rattle.formats.specs.Operand.{operandOf, unpackedOf, classIn}
+use Rattle.formats.proofs.Lead.{by-count, class-back, some-operand}
+use Rattle.laws.proofs.Gap.{gap-exponents}
+use Rattle.remainder.specs.Pair.{Ready, Unpacks}
+use Rattle.remainder.proofs.Told.{within-x87, held-fits, ready}
+use Rattle.partial.specs.Stands.{valueIn, valueOperand, Stands, StandsOperand}
+
+pub stands-ready : (u : Unpacked) → Stands u → Ready u
+stands-ready u s = ready x87 within-x87 (valueIn u) u (s .held) (s .unpacks)
+
+-- the gap is the difference of the exponents
+pub gap-is : (x y : Unpacked) → Stands x → Stands y → x .exponent -ℤ y .exponent ≡ gap (valueIn x .count) (valueIn y .count)
+unfolding unpackedOf
+gap-is x y sx sy = (λ i. sx .unpacks .is i .exponent -ℤ sy .unpacks .is i .exponent) ∙ sym (gap-exponents x87 (valueIn x .count) (valueIn y .count) (sx .unpacks .some) (sy .unpacks .some))
+
+-- the value that was unpacked is the operand's
+pub value-back : (v : Value) → Held x87 (v .count) → valueOperand (operandOf (x87 .smallest) (finite v)) ≡ v
+value-back v h = ap dividendOf (class-back (x87 .smallest) v (held-fits x87 within-x87 (v .count) h))
+
+pub stands-value : (v : Value) → Held x87 (v .count) → StandsOperand (operandOf (x87 .smallest) (finite v))
+unfolding classIn
+stands-value v h = by-count (x87 .smallest) v StandsOperand (λ z. tt) (λ p.
+    let e : valueIn (unpackedOf (x87 .smallest) v) ≡ v = ap (λ (o : Operand). valueOperand o) (sym (some-operand (x87 .smallest) v p)) ∙ value-back v h in
+    record {
+      unpacks = subst (λ (w : Value). Unpacks (x87 .smallest) w (unpackedOf (x87 .smallest) v)) (sym e) (record { some = p; digits = held-fits x87 within-x87 (v .count) h; is = refl });
+      held = subst (λ (w : Value). Held x87 (w .count)) (sym e) h;
+    })
+
+-- an operand that was unpacked from a value stands for it
+pub stands-unpacks : (v : Value) (u : Unpacked) → Held x87 (v .count) → Unpacks (x87 .smallest) v u → (valueIn u ≡ v) × Stands u
+unfolding classIn
+stands-unpacks v u h p =
+    let e : Finite u ≡ operandOf (x87 .smallest) (finite v) = ap Finite (p .is) ∙ sym (some-operand (x87 .smallest) v (p .some)) in
+    (ap (λ (o : Operand). valueOperand o) e ∙ value-back v h, subst StandsOperand (sym e) (stands-value v h))

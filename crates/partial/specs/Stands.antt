@@ -1,0 +1,35 @@
+-- How the code holds an x87 value on its way. Nothing to believe: these only name the code's own values.
+use Prim.Native.Nat.{ℕ}
+use mathlib.Core.Bool.{Bool}
+use Rattle.definitions.specs.Class.{Value, Class, finite}
+use Rattle.definitions.specs.Format.{Held, x87}
+use Rattle.definitions.specs.Division.{Reply, dividendOf}
+use Rattle.formats.specs.declared.operand.Unpacked.{Unpacked}
+use Rattle.formats.specs.declared.operand.Operand.{Operand}
+use Rattle.formats.specs.declared.operand.Operand.the-variants.{Unsupported, Nan, Infinite, Zero, Finite}
+use Rattle.formats.specs.Operand.{countIn, classIn}
+use Rattle.remainder.specs.Pair.{Unpacks, leftOf}
+use Rattle.partial.specs.declared.value.Stepped.{Stepped}
+
+-- the value of an unpacked operand, and of any
+abbrev pub valueIn : Unpacked → Value
+valueIn u = record { negative = u .negative; count = countIn (x87 .smallest) (u .significand) (u .exponent) }
+
+abbrev pub valueOperand : Operand → Value
+valueOperand o = dividendOf (classIn (x87 .smallest) o)
+
+-- an operand that is a value of the format, and is written as `formats` unpacks it
+pub record Stands (u : Unpacked) : Type 0 where
+  pub unpacks : Unpacks (x87 .smallest) (valueIn u) u
+  pub held : Held x87 (valueIn u .count)
+
+abbrev pub StandsOperand : Operand → Type 0
+StandsOperand Unsupported = ⊥
+StandsOperand Nan = ⊥
+StandsOperand (Infinite n) = ⊥
+StandsOperand (Zero n) = Unit {0}
+StandsOperand (Finite u) = Stands u
+
+-- a step's reply, on its way
+abbrev pub steppedOf : Reply → Stepped
+steppedOf r = record { done = r .done; left = leftOf (x87 .smallest) r }
