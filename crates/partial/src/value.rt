@@ -1,8 +1,13 @@
 // A step of a finite value by a finite divisor that is not zero. Only this crate calls these, with operands as `formats` unpacks them.
 use definitions::Kind;
 use division::divide;
-use formats::operand::{normalise, power_of_two, Operand, Unpacked};
-use remainder::pair::{finish_pair, gap, Left};
+use formats::operand::Operand;
+use formats::operand::Unpacked;
+use formats::operand::normalise;
+use formats::operand::power_of_two;
+use remainder::pair::Left;
+use remainder::pair::finish_pair;
+use remainder::pair::gap;
 ghost use mathlib.Core.Path.{_≡_};
 ghost use mathlib.Core.Bool.{true, false};
 ghost use Prim.Native.Nat.{_*_, _%_, _-_, _^_};

@@ -7,9 +7,10 @@ use lib.Dec.{eqb}
 use lib.IntN.{ℤ}
 use Rattle.digits.specs.Digits.{Digits}
 use Rattle.digits.proofs.Tests.{not-zero}
-use Rattle.definitions.specs.Class.{Value, Class, unsupported, nan, infinite, finite}
+use Rattle.definitions.specs.Class.{Value, Class, unsupported, nan, infinite, finite, gap}
 use Rattle.definitions.specs.Numbers.{numberOf, checks, first, dividing, accepted}
-use Rattle.definitions.specs.Division.{by, unbounded, finish, divisorOf}
+use Rattle.definitions.specs.Division.{by, unbounded, finish, finishBy, divisorOf}
+use Rattle.definitions.specs.Steps.{step, stepBy}
 use Rattle.definitions.specs.Answers.{refusalNumber}
 use Rattle.definitions.specs.declared.Kind.{Kind}
 use Rattle.definitions.specs.declared.Refusal.{Refusal}
@@ -51,6 +52,11 @@ module _ (s : ℤ) (v w : Value) (hv : Digits 64 (v .count)) (hw : Digits 64 (w 
   by-some : 0 < w .count → numberOf (dividing (finite v) (finite w)) ≡ 0
   by-some h = finite-number v w ∙ rw (not-zero (w .count) h)
 
+  -- a zero has no gap
+  zero-steps : (κ : Kind) (n : ℕ) → v .count ≡ 0 → step κ n (by (w .count)) v ≡ finishBy κ (w .count) v
+  unfolding step stepBy gap
+  zero-steps κ n z = rw z
+
   two-finite : Judged s (finite v) (finite w) (examinedOf (operandOf s (finite v)) (operandOf s (finite w)))
   unfolding finish
   two-finite =
@@ -62,6 +68,7 @@ module _ (s : ℤ) (v w : Value) (hv : Digits 64 (v .count)) (hw : Digits 64 (w 
         dividend = refl;
         operand = sym (zero-operand s v z);
         nothing = λ κ. finish-far κ (w .count) v h (omega arith);
+        in-one-step = λ κ n. zero-steps κ n z ∙ finish-far κ (w .count) v h (omega arith);
       }))
       (λ g. by-count s w (λ (o : Operand). Judged s (finite v) (finite w) (examinedOf (Finite (unpackedOf s v)) o)) by-zero
       (λ h. record {
@@ -75,7 +82,7 @@ module _ (s : ℤ) (v w : Value) (hv : Digits 64 (v .count)) (hw : Digits 64 (w 
       }))
 
 pub judged : (s : ℤ) (x y : Class) → Fits64 x → Fits64 y → Judged s x y (examinedOf (operandOf s x) (operandOf s y))
-unfolding operandOf numberOf checks first
+unfolding operandOf numberOf checks first step
 judged s unsupported y hx hy = refl
 judged s nan unsupported hx hy = refl
 judged s nan nan hx hy = refl
@@ -89,6 +96,6 @@ judged s (finite v) unsupported hx hy = by-count s v (λ (o : Operand). Judged s
 judged s (finite v) nan hx hy = by-count s v (λ (o : Operand). Judged s (finite v) nan (examinedOf o Nan)) (λ z. refl) (λ h. refl)
 judged s (finite v) (infinite t) hx hy =
     by-count s v (λ (o : Operand). Judged s (finite v) (infinite t) (examinedOf o (Infinite t)))
-    (λ z. record { accepted = refl; value = v; dividend = refl; operand = sym (zero-operand s v z); nothing = λ κ. refl })
-    (λ h. record { accepted = refl; value = v; dividend = refl; operand = sym (some-operand s v h); nothing = λ κ. refl })
+    (λ z. record { accepted = refl; value = v; dividend = refl; operand = sym (zero-operand s v z); nothing = λ κ. refl; in-one-step = λ κ n. refl })
+    (λ h. record { accepted = refl; value = v; dividend = refl; operand = sym (some-operand s v h); nothing = λ κ. refl; in-one-step = λ κ n. refl })
 judged s (finite v) (finite w) hx hy = two-finite s v w hx hy

@@ -5,6 +5,7 @@ use lib.IntN.{ℤ}
 use Rattle.definitions.specs.Class.{Value, Class, finite}
 use Rattle.definitions.specs.Numbers.{numberOf, dividing}
 use Rattle.definitions.specs.Division.{Divisor, by, finish, unbounded, dividendOf, divisorOf}
+use Rattle.definitions.specs.Steps.{step}
 use Rattle.definitions.specs.Answers.{refusalNumber}
 use Rattle.definitions.specs.declared.Kind.{Kind}
 use Rattle.definitions.specs.declared.Refusal.the-variants as why
@@ -39,13 +40,14 @@ examinedOf (Finite a) (Infinite t) = Returned (Finite a)
 examinedOf (Finite a) (Zero t) = Refused why.ZeroDivisor
 examinedOf (Finite a) (Finite b) = Pair a b
 
--- a dividend that is returned as it is: it is finite, and every kind finishes with it and nothing taken off
+-- a dividend that is returned as it is: it is finite, and every kind finishes with it, in one step, and nothing taken off
 pub record ReturnsDividend (s : ℤ) (x y : Class) (o : Operand) : Type 0 where
   pub accepted : numberOf (dividing x y) ≡ 0
   pub value : Value
   pub dividend : x ≡ finite value
   pub operand : o ≡ operandOf s (finite value)
   pub nothing : (κ : Kind) → finish κ (divisorOf y) value ≡ finish κ unbounded value
+  pub in-one-step : (κ : Kind) (n : ℕ) → step κ n (divisorOf y) value ≡ finish κ unbounded value
 
 -- two values that are to be divided
 pub record Divides (s : ℤ) (x y : Class) (a b : Unpacked) : Type 0 where

@@ -1,0 +1,3 @@
+pub mod OnePlace
+pub mod Front
+pub mod Whole

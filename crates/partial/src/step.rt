@@ -1,0 +1,55 @@
+// One step of two x87 operands, of every bit pattern.
+use crate::value::Stepped;
+use crate::value::step_value;
+use definitions::Extended;
+use definitions::Kind;
+use definitions::Refusal;
+use definitions::StepAnswer;
+use formats::extended::X87;
+use formats::operand::Operand;
+use remainder::examine::Examined;
+use remainder::examine::examine;
+use remainder::patterns::QUOTIENT_MODULUS;
+ghost use mathlib.Core.Path.{_≡_};
+ghost use Rattle.definitions.specs.Format.{x87, reach};
+ghost use Rattle.definitions.specs.Reports.{nothing, stepReport};
+ghost use Rattle.definitions.specs.Answers.{stepTold, joined};
+ghost use Rattle.formats.specs.Operand.{PackableOperand};
+ghost use Rattle.partial.specs.Stands.{stepWritten};
+
+// What a step came to, written down.
+fn step_answer(stepped: Stepped) -> StepAnswer
+    requires { ⌜ PackableOperand (x87 .smallest) (reach x87) (stepped .left .value) ⌝ }
+    ensures { λ r. ⌜ stepTold r ≡ stepWritten stepped ⌝ }
+{
+    let left = stepped.left;
+    let operand = left.value;
+    let value = X87 { operand }.pattern();
+    let quotient = left.quotient % QUOTIENT_MODULUS;
+    if stepped.done {
+        StepAnswer::Finished { value, quotient }
+    } else {
+        StepAnswer::Partial { value, quotient }
+    }
+}
+
+pub fn step80(x: Extended, y: Extended, size: u32, kind: Kind) -> StepAnswer
+    ensures { λ r. ⌜ stepTold r ≡ stepReport nothing kind size (joined x) (joined y) ⌝ }
+{
+    if size < 32 {
+        return StepAnswer::Refused(Refusal::Missized);
+    }
+    if 63 < size {
+        return StepAnswer::Refused(Refusal::Missized);
+    }
+    let dividend = X87::of_pattern(x).operand;
+    let divisor = X87::of_pattern(y).operand;
+    match examine(dividend, divisor) {
+        Examined::Refused(why) => StepAnswer::Refused(why),
+        Examined::Returned(operand) => StepAnswer::Finished {
+            value: X87 { operand }.pattern(),
+            quotient: 0,
+        },
+        Examined::Pair(a, b) => step_answer(step_value(kind, Operand::Finite(a), b, size)),
+    }
+}
