@@ -2,13 +2,14 @@
 use mathlib.Core.Path.{_≡_, subst}
 use mathlib.Core.Bool.{Bool, true, false, not}
 use Prim.Native.Nat.{ℕ, _+_, _-_, _*_, _%_, _^_, _≤_, _<_, _∣_}
-use native.Mathlib.Nat.{lt-of-le-of-lt, lt-of-lt-of-le, le-of-lt, mod-lt, mod-le, mul-pos, add-sub-of-le, dvd-mul-right, dvd-trans, dvd-mod-iff, dvd-sub, dvd-of-mod-eq-zero, mod-eq-zero-of-dvd, mul-dvd-mul-right, add-assoc, mul-one, mod-one}
+use native.Mathlib.Nat.{lt-of-le-of-lt, lt-of-lt-of-le, le-of-lt, mod-lt, mod-le, mul-pos, add-sub-of-le, dvd-mul-right, dvd-trans, dvd-mod-iff, dvd-sub, dvd-of-mod-eq-zero, mod-eq-zero-of-dvd, mul-dvd-mul-right, dvd-of-mul-dvd-mul-right, add-assoc, mod-one}
 use native.Mathlib.Omega.{arith}
 use lib.Dec.{T, leb, leb→le, nleb→lt}
 use lib.Pow.{pow-add, pow-pos, pow-mono, shl-lt}
 use lib.Ieee.{size}
 use lib.Ieee.Digits.{size-lt, size-le}
 use Rattle.digits.specs.Digits.{Digits}
+use Rattle.digits.proofs.Size.{size-shift}
 
 pub pow-dvd : (i j : ℕ) → i ≤ j → 2 ^ i ∣ 2 ^ j
 pow-dvd i j h = subst (λ (e : ℕ). 2 ^ i ∣ 2 ^ e) (add-sub-of-le h) (rw (pow-add 2 i (j - i)) (dvd-mul-right (2 ^ i) (2 ^ (j - i))))
@@ -25,6 +26,23 @@ digits-dvd p n e = dvd-of-mod-eq-zero (2 ^ (size n - p)) e
 
 pub digits-lt : (p n : ℕ) → n < 2 ^ (p + (size n - p))
 digits-lt p n = lt-of-lt-of-le (size-lt n) (pow-mono (omega arith))
+
+-- zeros put below
+pub digits-shift : (p n k : ℕ) → Digits p n → Digits p (n * 2 ^ k)
+digits-shift p n k d =
+    digits-intro p (size n - p + k) (n * 2 ^ k) (rw (pow-add 2 (size n - p) k) (mul-dvd-mul-right (2 ^ (size n - p)) (digits-dvd p n d) (2 ^ k)))
+    (rw add-assoc at (shl-lt (p + (size n - p)) k (digits-lt p n)))
+
+-- and taken away again
+pub digits-unshift : (p n k : ℕ) → 0 < n → Digits p (n * 2 ^ k) → Digits p n
+digits-unshift p n k some d = go (leb (size n) p) (leb→le (size n) p) (nleb→lt (size n) p)
+  where
+    go : (t : Bool) → (T t → size n ≤ p) → (T (not t) → p < size n) → Digits p n
+    go true h g = let e : size n - p ≡ 0 = omega (arith, h tt) in rw e (mod-one n)
+    go false h g =
+        let e : size (n * 2 ^ k) - p ≡ size n - p + k = omega (arith, size-shift n k some, g tt) in
+        mod-eq-zero-of-dvd (2 ^ (size n - p))
+        (dvd-of-mul-dvd-mul-right (2 ^ (size n - p)) (pow-pos k) (rw (e, pow-add 2 (size n - p) k) at (digits-dvd p (n * 2 ^ k) d)))
 
 -- what is a whole number of the lower of two last places, and below both numbers
 pub digits-common : (p n m v : ℕ) → Digits p n → (b : ℕ) → 2 ^ b ∣ m → m < 2 ^ (p + b) → v ≤ n → v ≤ m

@@ -21,7 +21,7 @@ use Rattle.definitions.specs.Division.{Reply, unbounded, roundsUp, finishBy, fi
 use Rattle.definitions.specs.Steps.{cutAt}
 
 -- a quotient goes up only from a half of the divisor on
-up-half : (κ : Kind) (q r m : ℕ) → roundsUp κ q r m ≡ true → m ≤ 2 * r
+pub up-half : (κ : Kind) (q r m : ℕ) → roundsUp κ q r m ≡ true → m ≤ 2 * r
 up-half Truncated q r m e = clash (cc)
 up-half Nearest q r m e = go (ltb m (2 * r)) (eqb m (2 * r)) refl refl e
   where
@@ -31,7 +31,7 @@ up-half Nearest q r m e = go (ltb m (2 * r)) (eqb m (2 * r)) refl refl e
     go false false ea eb u = clash (cc)
 
 -- what has few enough digits and is no more than a count that the format holds
-held-below : (f : Format) (n v : ℕ) → Held f n → v ≤ n → Digits (f .precision) v → Held f v
+pub held-below : (f : Format) (n v : ℕ) → Held f n → v ≤ n → Digits (f .precision) v → Held f v
 held-below f n v h l d = record { digits = d; range = le-trans (size-mono v n l) (h .range) }
 
 left-held : (f : Format) (n m j : ℕ) → 0 < m → Held f m → Held f n → Held f (n % (m * 2 ^ j))

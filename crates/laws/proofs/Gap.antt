@@ -1,10 +1,10 @@
 -- The gap of two counts: whether it is below 64, how large it is, and how large it can be. Assumes nothing.
 use mathlib.Core.Path.{_≡_, refl, sym}
 use mathlib.Core.Bool.{Bool, true, false}
-use Prim.Native.Nat.{ℕ, zero, suc, _+_, _-_, _≤_, _<_}
+use Prim.Native.Nat.{ℕ, zero, suc, _+_, _-_, _≤_, _<_, zero-le}
 use native.Mathlib.Nat.{add-zero, sub-zero, zero-sub}
 use native.Mathlib.Omega.{arith}
-use borrow.Author.Tests.{lt-ltb, ltb-true}
+use borrow.Author.Tests.{lt-ltb, ltb-true, ltb-false}
 use lib.Dec.{T, ltb, le→leb, eqb·suc-zero, lit<, lit≤}
 use lib.IntN.{ℤ, pos, negsuc, negℤ, natAbs, _+ℤ_, _-ℤ_, +ℤ-comm, +ℤ-assoc, negℤ-+ℤ, +ℤ-negℤ-cancel}
 use lib.Signed.{ltZ, leZ}
@@ -16,13 +16,16 @@ use Rattle.definitions.specs.Format.{Format, Held, Regular, exponentOf, largest
 use Rattle.laws.proofs.Held.{largest, size-largest}
 
 -- the difference of two natural numbers is the cut-off one, or negative
-pub sub-is : (P : ℤ → Type 0) (a b : ℕ) → P (pos (a - b)) → ((k : ℕ) → a < b → P (negsuc k)) → P (pos a -ℤ pos b)
-sub-is P a zero up down = rw add-zero (rw sub-zero at up)
-sub-is P a (suc b) up down = go (ltb a (suc b)) refl
+pub sub-cases : (P : ℤ → Type 0) (a b : ℕ) → (b ≤ a → P (pos (a - b))) → ((k : ℕ) → a + suc k ≡ b → P (negsuc k)) → P (pos a -ℤ pos b)
+sub-cases P a zero up down = rw add-zero (rw sub-zero at (up zero-le))
+sub-cases P a (suc b) up down = go (ltb a (suc b)) refl
   where
     go : (t : Bool) → ltb a (suc b) ≡ t → P (pos a -ℤ pos (suc b))
-    go true e = rw e (down (suc b - suc a) (ltb-true a (suc b) e))
-    go false e = rw e up
+    go true e = rw e (down (suc b - suc a) (omega (arith, ltb-true a (suc b) e)))
+    go false e = rw e (up (ltb-false a (suc b) e))
+
+pub sub-is : (P : ℤ → Type 0) (a b : ℕ) → P (pos (a - b)) → ((k : ℕ) → a < b → P (negsuc k)) → P (pos a -ℤ pos b)
+sub-is P a b up down = sub-cases P a b (λ h. up) (λ k e. down k (omega arith))
 
 -- and so is a gap
 pub gap-is : (P : ℤ → Type 0) (n m : ℕ) → P (pos (size n - size m)) → ((k : ℕ) → size n < size m → P (negsuc k)) → P (gap n m)

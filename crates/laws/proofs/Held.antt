@@ -2,7 +2,7 @@
 use mathlib.Core.Path.{_≡_, sym, subst}
 use mathlib.Core.Bool.{Bool, true, false, not}
 use Prim.Native.Nat.{ℕ, zero, suc, _+_, _-_, _*_, _/_, _^_, _≤_, _<_}
-use native.Mathlib.Nat.{le-trans, mul-le-mul, lt-of-lt-of-le, dvd-mul-left, div-mul-cancel, div-lt-iff-lt-mul, two-pow-succ}
+use native.Mathlib.Nat.{le-trans, mul-le-mul, lt-of-lt-of-le, dvd-mul-left, div-mul-cancel, div-lt-iff-lt-mul, two-pow-succ, zero-mod}
 use native.Mathlib.Omega.{arith}
 use lib.Dec.{T, ltb, ltb→lt, nltb→le}
 use lib.Pow.{pow-add, pow-pos, pow-lt, pow-mono, shl-lt, shl-shr, ones-lt, le-ones}
@@ -97,3 +97,6 @@ largest-most f r n h =
 
 pub one-held : (f : Format) → Regular f → Held f 1
 one-held f r = shifted-held f 0 1 (pow-lt {i = 0} (omega arith)) (omega arith)
+
+pub zero-held : (f : Format) → Held f 0
+zero-held f = record { digits = zero-mod (2 ^ (size 0 - f .precision)); range = rw size-zero (omega arith) }

@@ -4,7 +4,7 @@ use mathlib.Core.Bool.{Bool, true, false, cond}
 use Prim.Native.Nat.{ℕ, suc, _+_, _-_, _*_, _/_, _^_, _≤_, _<_}
 use native.Mathlib.Nat.{mul-one, zero-add, le-refl, le-add-right}
 use native.Mathlib.Omega.{arith}
-use borrow.Author.Tests.{le-leb, lt-leb, leb-true, leb-false, ne-eqb, eq-eqb}
+use borrow.Author.Tests.{le-leb, lt-leb, leb-true, leb-false, ne-eqb, eq-eqb, eqb-true}
 use lib.Dec.{leb, eqb, eqb·suc-zero}
 use lib.Pow.{pow-pos}
 use Rattle.digits.proofs.Tests.{clash}
@@ -88,3 +88,23 @@ finite-high explicit f n j t v e = go (leb (leading f) t) refl
     go : (b : Bool) → leb (leading f) t ≡ b → leading f ≤ 0 + t
     go true q = omega (arith, leb-true (leading f) t q)
     go false q = let d = rw (eqb·suc-zero j, q) at e in clash (cc)
+
+-- ---- which patterns are infinities
+pub infinite-top : (l : Layout) (f : Format) (m n : Bool) (e t : ℕ) → fieldsClass l f m e t ≡ infinite n
+    → (e ≡ topField f) × (t ≡ infinity l (leading f)) × (m ≡ n)
+infinite-top hidden f m n e t c = go (eqb e (topField f)) (eqb t 0) refl refl
+  where
+    go : (a b : Bool) → eqb e (topField f) ≡ a → eqb t 0 ≡ b → (e ≡ topField f) × (t ≡ 0) × (m ≡ n)
+    go true true p q = let d = rw (p, q) at c in (eqb-true e (topField f) p, eqb-true t 0 q, (cc))
+    go true false p q = let d = rw (p, q) at c in clash (cc)
+    go false b p q = let d = rw p at c in clash (cc)
+infinite-top explicit f m n e t c = go (eqb e 0) (leb (leading f) t) (eqb e (topField f)) (eqb t (leading f)) refl refl refl refl
+  where
+    go : (z j a b : Bool) → eqb e 0 ≡ z → leb (leading f) t ≡ j → eqb e (topField f) ≡ a → eqb t (leading f) ≡ b
+        → (e ≡ topField f) × (t ≡ leading f) × (m ≡ n)
+    go true true a b u v p q = let d = rw (u, v) at c in clash (cc)
+    go true false a b u v p q = let d = rw (u, v) at c in clash (cc)
+    go false false a b u v p q = let d = rw (u, v) at c in clash (cc)
+    go false true false b u v p q = let d = rw (u, v, p) at c in clash (cc)
+    go false true true false u v p q = let d = rw (u, v, p, q) at c in clash (cc)
+    go false true true true u v p q = let d = rw (u, v, p, q) at c in (eqb-true e (topField f) p, eqb-true t (leading f) q, (cc))

@@ -8,3 +8,6 @@ pub mod RoundTrip
 pub mod Range
 pub mod Division
 pub mod Agrees
+pub mod Cut
+pub mod Scaling
+pub mod Splitting

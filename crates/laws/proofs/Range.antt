@@ -11,12 +11,15 @@ use lib.Ieee.{size}
 use Rattle.definitions.specs.Format.{Format, Regular, exponentOf, reach}
 use Rattle.laws.proofs.Gap.{sub-is}
 
+-- the smallest place of a regular format
+pub smallest-is : (f : Format) → Regular f → f .smallest ≡ negℤ (pos (f .bias + f .precision - 2))
+smallest-is f r =
+    let k = pos (f .bias + f .precision - 2) in
+    sym (sym (+ℤ-idl (negℤ k)) ∙ ap (λ (z : ℤ). z -ℤ k) (sym (r .place)) ∙ +ℤ-negℤ-cancel (f .smallest) k)
+
 -- the exponent, counted from the smallest place
 pub exponent-is : (f : Format) → Regular f → (n : ℕ) → exponentOf f n ≡ pos (size n - 1) -ℤ pos (f .bias + f .precision - 2)
-exponent-is f r n =
-    let k = pos (f .bias + f .precision - 2) in
-    let d : negℤ k ≡ f .smallest = sym (+ℤ-idl (negℤ k)) ∙ ap (λ (z : ℤ). z -ℤ k) (sym (r .place)) ∙ +ℤ-negℤ-cancel (f .smallest) k in
-    rw d (+ℤ-comm (f .smallest) (pos (size n - 1)))
+exponent-is f r n = rw (← smallest-is f r) (+ℤ-comm (f .smallest) (pos (size n - 1)))
 
 pub exponent-above : (f : Format) → Regular f → (n : ℕ) → ltZ (pos (f .bias)) (exponentOf f n) ≡ ltb (reach f) (size n)
 exponent-above f r n =

@@ -9,7 +9,7 @@ use lib.Ieee.{size}
 use Rattle.definitions.specs.Class.{Value, Class, nan, infinite, finite}
 use Rattle.definitions.specs.Format.{Format, Held, Regular, topField, fieldWeight, signWeight, patterns, classOf, withSign, patternOf, houseNan, infinity, quiet, leading}
 use Rattle.laws.proofs.Held.{held-placed, held-count, placed-held, magnitude-placed}
-use Rattle.laws.proofs.Layouts.{number}
+use Rattle.laws.proofs.Layouts.{number, infinite-top}
 use Rattle.laws.proofs.Fields.{Fields, fields-read, fields-body, fields-field, fields-rest, fields-placed, placed-fields, finite-fields, infinity-rest, quiet-rest, infinity-read, quiet-read}
 use Rattle.laws.proofs.Pattern.{pack, pack-read, pack-small, packed, field-small, rest-small}
 
@@ -62,6 +62,14 @@ module _ (f : Format) (r : Regular f) where
   pub read-infinite : (n : Bool) → classOf f (patternOf f (infinite n)) ≡ infinite n
   unfolding patternOf
   read-infinite n = pack-read f (topField f) (infinity (f .layout) (leading f)) (omega arith) (infinity-rest f r) n ∙ infinity-read f n
+
+  pub written-infinite : (b : ℕ) (n : Bool) → b < patterns f → classOf f b ≡ infinite n → patternOf f (infinite n) ≡ b
+  unfolding patternOf
+  written-infinite b n h e =
+      let p = packed f b h in
+      let k = sym (pack-read f (p .field) (p .rest) (p .small) (p .below) (p .negative)) ∙ ap (classOf f) (p .is) ∙ e in
+      let i = infinite-top (f .layout) f (p .negative) n (p .field) (p .rest) k in
+      rw (i .0, i .1, i .2) at (p .is)
 
   pub infinite-small : (n : Bool) → patternOf f (infinite n) < patterns f
   unfolding patternOf

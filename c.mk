@@ -1,0 +1,89 @@
+# The C side: header, examples, tests from the outside, measurements, installation.
+# To be included by the Makefile; works alone too: make -f c.mk outside
+#
+#
+#   outside         the quick tests: header, examples, vectors, lent memory, binary16, the processor, the C library (about a minute)
+#   outside-long    the same comparisons with ten million operand pairs a format and more
+#   outside-half    all 2^32 pairs of binary16, both kinds (a quarter of an hour)
+#   bench           times and ratios, then instructions by callgrind
+#   examples        builds them and holds what they write to the stored text
+#   install         PREFIX=... [DESTDIR=...]
+#   install-check   installs under target/ and builds an example by pkg-config
+
+LIB ?= target/staticlib/libcapi.a
+VERSION ?= 0.1.0
+PREFIX ?= /usr/local
+CC = gcc
+CXX = g++
+RUSTC ?= rustc
+
+c_out = target/c
+c_warn = -Wall -Wextra -pedantic
+c_flags = -std=c99 -O2 $(c_warn) -Iinclude
+# what is compared or measured is the C library's function, not what the compiler makes of its name
+c_nobuiltin = $(foreach n,fmod remainder remquo,-fno-builtin-$(n) -fno-builtin-$(n)f -fno-builtin-$(n)l)
+
+.PHONY: outside outside-long outside-half bench examples header install install-check
+
+# rt proves again what has changed. Another LIB is taken as it is.
+target/staticlib/libcapi.a: $(shell find crates -name '*.rt' -o -name '*.antt') crates.txt
+	rt staticlib capi
+	touch $@
+
+$(c_out):
+	mkdir -p $@
+
+$(c_out)/%: tests/%.c tests/calls.h tests/operands.h include/zukemoriha.h $(LIB) | $(c_out)
+	$(CC) $(c_flags) $(c_nobuiltin) -Itests $< $(LIB) -lm -o $@
+
+$(c_out)/%: examples/%.c include/zukemoriha.h $(LIB) | $(c_out)
+	$(CC) $(c_flags) $< $(LIB) -o $@
+
+$(c_out)/host: tests/host.cc include/zukemoriha.h $(LIB) | $(c_out)
+	$(CXX) -O2 $(c_warn) -Iinclude $< $(LIB) -o $@
+
+# an object and not a whole Rust archive: that one brings a fmod of its own, which would be linked in the C library's place
+$(c_out)/shift.o: bench/shift.rs | $(c_out)
+	$(RUSTC) -O -C panic=abort --crate-type staticlib --emit obj $< -o $@
+
+$(c_out)/bench: bench/bench.c $(c_out)/shift.o include/zukemoriha.h $(LIB) | $(c_out)
+	$(CC) $(c_flags) $(c_nobuiltin) $< $(c_out)/shift.o $(LIB) -lm -o $@
+
+header:
+	echo '#include "zukemoriha.h"' | $(CC) -std=c99 $(c_warn) -Werror -Iinclude -fsyntax-only -x c -
+	echo '#include "zukemoriha.h"' | $(CXX) $(c_warn) -Werror -Iinclude -fsyntax-only -x c++ -
+
+examples: $(c_out)/fold_angle $(c_out)/step80
+	$(c_out)/fold_angle | diff examples/fold_angle.out -
+	$(c_out)/step80 | diff examples/step80.out -
+
+outside: header examples $(addprefix $(c_out)/,host untouched vectors half fprem libm)
+	$(c_out)/host
+	$(c_out)/untouched
+	$(c_out)/vectors
+	$(c_out)/half
+	$(c_out)/fprem
+	$(c_out)/libm
+
+outside-long: $(c_out)/fprem $(c_out)/libm
+	$(c_out)/fprem 10000000 2
+	$(c_out)/libm 10000000 2
+
+outside-half: $(c_out)/half
+	$(c_out)/half 1
+
+bench: $(c_out)/bench
+	$(c_out)/bench
+	sh bench/callgrind.sh $(c_out)/bench
+
+install: $(LIB)
+	install -d $(DESTDIR)$(PREFIX)/lib/pkgconfig $(DESTDIR)$(PREFIX)/include
+	install -m 644 $(LIB) $(DESTDIR)$(PREFIX)/lib/libzukemoriha.a
+	install -m 644 include/zukemoriha.h $(DESTDIR)$(PREFIX)/include/zukemoriha.h
+	sed 's|@PREFIX@|$(abspath $(PREFIX))|; s|@VERSION@|$(VERSION)|' zukemoriha.pc.in > $(DESTDIR)$(PREFIX)/lib/pkgconfig/zukemoriha.pc
+
+install-check: | $(c_out)
+	$(MAKE) -f $(firstword $(MAKEFILE_LIST)) install PREFIX=$(c_out)/prefix DESTDIR= LIB=$(LIB)
+	export PKG_CONFIG_PATH=$(c_out)/prefix/lib/pkgconfig; \
+	$(CC) -std=c99 $(c_warn) examples/fold_angle.c $$(pkg-config --cflags --libs zukemoriha) -o $(c_out)/installed
+	$(c_out)/installed | diff examples/fold_angle.out -

@@ -1,0 +1,73 @@
+/*
+ * Steps an 80-bit reading to its end, as a host with an x87 unit would with FPREM, and prints the octant.
+ *
+ *   step80 [X Y SIZE KIND]    X and Y as 20 hex digits, the sign-and-exponent word first; KIND 0 truncated, 1 nearest
+ *
+ * The octant is in the sum of the steps' quotient bits, not in the last step's alone: 2^65 by 3 in steps of size 63 shows the difference.
+ */
+#include "zukemoriha.h"
+
+#include <inttypes.h>
+#include <stdio.h>
+#include <stdlib.h>
+#include <string.h>
+
+struct x87 {
+    uint64_t significand;
+    uint16_t word;
+};
+
+/* Gives 0 if the text is not 20 hex digits. */
+static int read_x87(const char *digits, struct x87 *x) {
+    char word[5] = "";
+    if (strlen(digits) != 20 || strspn(digits, "0123456789abcdefABCDEF") != 20)
+        return 0;
+    memcpy(word, digits, 4);
+    x->word = (uint16_t)strtoul(word, NULL, 16);
+    x->significand = strtoull(digits + 4, NULL, 16);
+    return 1;
+}
+
+static void print_octant(uint32_t sum, uint32_t last) {
+    printf("octant %u: C0 %d C3 %d C1 %d", (unsigned)sum, zk_c0(sum), zk_c3(sum), zk_c1(sum));
+    if (sum != last)
+        printf(" (the last step alone shows %u)", (unsigned)last);
+    printf("\n");
+}
+
+static int step_to_end(struct x87 x, struct x87 y, uint32_t size, uint32_t kind) {
+    uint8_t block[ZK_BLOCK_LENGTH];
+    uint32_t sum = 0, steps = 0;
+    uint8_t number;
+    printf("%04X%016" PRIX64 " by %04X%016" PRIX64 ", size %u, %s\n", x.word, x.significand, y.word, y.significand, (unsigned)size,
+           kind == ZK_TRUNCATED ? "truncated" : "nearest");
+    do {
+        number = zk_step80(x.significand, x.word, y.significand, y.word, size, kind, block, sizeof block);
+        if (!zk_is_answer(number)) {
+            printf("refused with %u\n", number);
+            return 1;
+        }
+        x.significand = zk_block_significand(block);
+        x.word = zk_block_word(block);
+        sum = (sum + zk_block_quotient(block)) % 8;
+        steps += zk_block_steps(block);
+        printf("step %u: %04X%016" PRIX64 " %s, quotient part %u\n", (unsigned)steps, x.word, x.significand,
+               number == ZK_PARTIAL ? "partial" : "finished", zk_block_quotient(block));
+    } while (number == ZK_PARTIAL);
+    print_octant(sum, zk_block_quotient(block));
+    return 0;
+}
+
+int main(int argc, char **argv) {
+    static const struct x87 two_to_65 = {UINT64_C(0x8000000000000000), 0x4040}, three = {UINT64_C(0xC000000000000000), 0x4000};
+    static const struct x87 reading = {UINT64_C(0x9A209A84FBCFF799), 0x40A8}, quarter_pi = {UINT64_C(0xC90FDAA22168C235), 0x3FFE};
+    struct x87 x, y;
+    if (argc == 5 && read_x87(argv[1], &x) && read_x87(argv[2], &y))
+        return step_to_end(x, y, (uint32_t)strtoul(argv[3], NULL, 10), (uint32_t)strtoul(argv[4], NULL, 10));
+    if (argc != 1) {
+        fprintf(stderr, "usage: step80 [X Y SIZE KIND]\n");
+        return 2;
+    }
+    return step_to_end(two_to_65, three, 63, ZK_TRUNCATED) | step_to_end(two_to_65, three, 63, ZK_NEAREST) |
+           step_to_end(reading, quarter_pi, 40, ZK_TRUNCATED);
+}

@@ -1,0 +1,241 @@
+/*
+ * zukemoriha.h: exact floating-point remainders on bit patterns.
+ *
+ * binary16, binary32 and binary64 operands are their patterns, as whole numbers. An x87 operand (80 bits) is two numbers, always in this
+ * order: its significand (64 bits, the leading bit explicit) and its sign-and-exponent word (16 bits, the sign on top).
+ *
+ * Rules for every function
+ *
+ *   - Every bit pattern is taken. A function always returns one of the numbers 0 to 9 below, and never traps.
+ *   - 0, 1 and 7 are answers: everything that the function promises has been written. All other numbers are refusals: what was lent is
+ *     as it was, byte for byte, *value, *quotient, *marked and the block included.
+ *   - Where several refusals apply, the first in the order 9, 6, 2, 3, 4, 5, 8 is returned; 7 comes after them.
+ *   - kind: 0 is the truncated remainder (C's fmod, the processor's FPREM), any other number is the nearest one (C's remainder, IEEE 754,
+ *     FPREM1).
+ *   - The host's duty, which no function can check: each pointer is not null, is aligned for its type, and points to memory that holds
+ *     what it is lent for, also where a length is 0; and no two lent places overlap.
+ *   - No function keeps a pointer, uses a status word or a rounding mode, or has state: calls from many threads do not meet.
+ *
+ * The remainder of x by y is x - Q*y with Q the quotient |x|/|y|, cut (truncated) or rounded to nearest, a half to the even one (nearest),
+ * with the sign of x/y. It is exact. A zero result has the sign of x. Quotient bits are those of |Q| modulo 8. By an infinite y a finite x
+ * is returned as it is, with quotient bits 0.
+ */
+#ifndef ZUKEMORIHA_H
+#define ZUKEMORIHA_H
+
+#include <float.h>
+#include <stddef.h>
+#include <stdint.h>
+#include <string.h>
+
+#ifdef __cplusplus
+extern "C" {
+#endif
+
+/* What every function returns. */
+enum zk_number {
+    ZK_FINISHED = 0,     /* the result is there */
+    ZK_PARTIAL = 1,      /* step only: the step was partial, its value is there, another step is needed */
+    ZK_UNSUPPORTED = 2,  /* an x87 operand is no number of the format (see zk_rem80) */
+    ZK_NAN = 3,          /* an operand is NaN */
+    ZK_INFINITE = 4,     /* the dividend is infinite; or an infinity was to be split */
+    ZK_ZERO_DIVISOR = 5, /* the divisor is zero */
+    ZK_BAD_SIZE = 6,     /* step and run: the size is not from 32 to 63 */
+    ZK_SPENT = 7,        /* run only: the budget is spent, the value reached is there; with budget 0 it is the dividend */
+    ZK_ZERO_SPLIT = 8,   /* a zero was to be split */
+    ZK_BAD_LENGTH = 9    /* lists of unequal length, or a block that is not ZK_BLOCK_LENGTH bytes long */
+};
+
+/* kind */
+#define ZK_TRUNCATED 0u
+#define ZK_NEAREST 1u
+
+/* What scaling says of its rounding. */
+enum zk_says {
+    ZK_EXACT = 0,
+    ZK_UP = 1,  /* the magnitude was rounded up; infinity from a finite value is up */
+    ZK_DOWN = 2 /* the magnitude was rounded down */
+};
+
+/* Sizes that a step or a run takes, both ends included. */
+#define ZK_SIZE_LEAST 32u
+#define ZK_SIZE_MOST 63u
+
+/* The quotient byte of a place in a folded list that has no remainder, and the pattern that is written there. */
+#define ZK_MARK 255u
+#define ZK_HOUSE_NAN64 UINT64_C(0x7FF8000000000000)
+
+/*
+ * The block that a step or a run writes: 16 bytes, all of them written with 0, 1 and 7.
+ *
+ *   byte  0 to 7   significand of the value, little-endian
+ *   byte  8 to 9   sign-and-exponent word of the value, little-endian
+ *   byte 10        the number, the same as the one returned
+ *   byte 11        quotient bits, 0 to 7: those of this step's quotient part, or those of a run's parts added up, modulo 8
+ *   byte 12 to 15  steps taken, little-endian: 1 for a step
+ */
+#define ZK_BLOCK_LENGTH 16u
+
+/*
+ * Remainder in one call. Returns 0, or refuses with 2 (x87 only), 3, 4 or 5.
+ * *value gets the remainder, *quotient the three quotient bits (0 to 7).
+ */
+uint8_t zk_rem16(uint16_t x, uint16_t y, uint32_t kind, uint16_t *value, uint32_t *quotient);
+uint8_t zk_rem32(uint32_t x, uint32_t y, uint32_t kind, uint32_t *value, uint32_t *quotient);
+uint8_t zk_rem64(uint64_t x, uint64_t y, uint32_t kind, uint64_t *value, uint32_t *quotient);
+
+/*
+ * The same for x87. With e the lower 15 bits of the word and J the top bit of the significand, the patterns that are supported are
+ * e = 0 with J = 0 (zeros and denormals), e = 1 to 32766 with J = 1 (normal numbers) and e = 32767 with J = 1 (infinities and NaNs).
+ * All others are refused with 2, e = 0 with J = 1 among them.
+ */
+uint8_t zk_rem80(uint64_t x, uint16_t xw, uint64_t y, uint16_t yw, uint32_t kind, uint64_t *value, uint16_t *valuew, uint32_t *quotient);
+
+/*
+ * One step, as FPREM (kind 0) or FPREM1 makes it, with the size n that the manuals leave to the processor. D is the exponent of x less
+ * that of y. If D < 64 the step finishes (0) with the remainder and the quotient bits of one call. Otherwise it is partial (1): with
+ * QQ = |x|/|y|/2^(D-n) cut, in both kinds, the value is x less QQ * 2^(D-n) times y, and the quotient bits are those of QQ * 2^(D-n),
+ * modulo 8. A zero partial value is still partial: the next step finishes.
+ * Refuses with 9, 6, 2, 3, 4 or 5. length is the block's length in bytes.
+ */
+uint8_t zk_step80(uint64_t x, uint16_t xw, uint64_t y, uint16_t yw, uint32_t size, uint32_t kind, uint8_t *block, size_t length);
+
+/*
+ * Steps of one size until one finishes (0) or the budget is spent (7). Quotient bits are the sum of all parts taken, modulo 8, and steps
+ * is how many steps were taken. A run that ended with 7 may be continued from its value: steps and quotient bits are to be added.
+ * Refuses with 9, 6, 2, 3, 4 or 5.
+ */
+uint8_t zk_run80(uint64_t x, uint16_t xw, uint64_t y, uint16_t yw, uint32_t size, uint32_t kind, uint32_t budget, uint8_t *block,
+                 size_t length);
+
+/*
+ * x times 2^power, rounded once, ties to even. *value gets the result and *says an enum zk_says. An exponent above the format's largest
+ * gives infinity; only bits below the smallest denormal are rounded away. Zeros and infinities return themselves, exact.
+ * Returns 0, or refuses with 2 (x87 only) or 3.
+ */
+uint8_t zk_scale16(uint16_t x, int32_t power, uint16_t *value, uint8_t *says);
+uint8_t zk_scale32(uint32_t x, int32_t power, uint32_t *value, uint8_t *says);
+uint8_t zk_scale64(uint64_t x, int32_t power, uint64_t *value, uint8_t *says);
+uint8_t zk_scale80(uint64_t x, uint16_t xw, int32_t power, uint64_t *value, uint16_t *valuew, uint8_t *says);
+
+/*
+ * Splits a nonzero finite x into a significand with magnitude from 1 to below 2 and x's sign, and the exponent of its leading one.
+ * Scaling the one by the other gives x's own pattern, exact. Returns 0, or refuses with 2 (x87 only), 3, 4 or 8.
+ */
+uint8_t zk_split16(uint16_t x, uint16_t *significand, int32_t *exponent);
+uint8_t zk_split32(uint32_t x, uint32_t *significand, int32_t *exponent);
+uint8_t zk_split64(uint64_t x, uint64_t *significand, int32_t *exponent);
+uint8_t zk_split80(uint64_t x, uint16_t xw, uint64_t *significand, uint16_t *significandw, int32_t *exponent);
+
+/*
+ * Folds a list: results[i] and quotients[i] get the remainder of x[i] by y and its quotient bits. A NaN or infinite x[i] gets
+ * ZK_HOUSE_NAN64 and the byte ZK_MARK instead, and *marked gets the number of those places. nx, nr and nq count elements.
+ * Returns 0, or refuses the whole list with 9 (the three lengths are not equal), 3 (y is NaN) or 5 (y is zero), also if it is empty.
+ */
+uint8_t zk_fold64(const uint64_t *x, size_t nx, uint64_t *results, size_t nr, uint8_t *quotients, size_t nq, uint64_t y, uint32_t kind,
+                  size_t *marked);
+
+/* Between numbers of the language and patterns: the bits, nothing converted. */
+
+typedef char zk_float_has_32_bits[sizeof(float) == 4 ? 1 : -1];
+typedef char zk_double_has_64_bits[sizeof(double) == 8 ? 1 : -1];
+
+static inline uint32_t zk_pattern_of_float(float x) {
+    uint32_t pattern;
+    memcpy(&pattern, &x, sizeof pattern);
+    return pattern;
+}
+
+static inline float zk_float_of_pattern(uint32_t pattern) {
+    float x;
+    memcpy(&x, &pattern, sizeof x);
+    return x;
+}
+
+static inline uint64_t zk_pattern_of_double(double x) {
+    uint64_t pattern;
+    memcpy(&pattern, &x, sizeof pattern);
+    return pattern;
+}
+
+static inline double zk_double_of_pattern(uint64_t pattern) {
+    double x;
+    memcpy(&x, &pattern, sizeof x);
+    return x;
+}
+
+/* Only where long double is the x87 format, in its order in memory. */
+#if LDBL_MANT_DIG == 64 && (defined(__x86_64__) || defined(__i386__))
+#define ZK_LONG_DOUBLE_IS_X87 1
+static inline uint64_t zk_significand_of_long_double(long double x) {
+    uint64_t significand;
+    memcpy(&significand, &x, sizeof significand);
+    return significand;
+}
+
+static inline uint16_t zk_word_of_long_double(long double x) {
+    uint16_t word;
+    memcpy(&word, (const char *)&x + 8, sizeof word);
+    return word;
+}
+
+static inline long double zk_long_double_of_pattern(uint64_t significand, uint16_t word) {
+    long double x = 0;
+    memcpy(&x, &significand, sizeof significand);
+    memcpy((char *)&x + 8, &word, sizeof word);
+    return x;
+}
+#endif
+
+/* 0, 1 and 7 are answers, the rest refusals. */
+static inline int zk_is_answer(uint8_t number) {
+    return number == ZK_FINISHED || number == ZK_PARTIAL || number == ZK_SPENT;
+}
+
+/* The fields of a written block, on a host of any byte order. */
+
+static inline uint64_t zk_block_significand(const uint8_t *block) {
+    uint64_t significand = 0;
+    int i;
+    for (i = 7; i >= 0; i--)
+        significand = significand << 8 | block[i];
+    return significand;
+}
+
+static inline uint16_t zk_block_word(const uint8_t *block) {
+    return (uint16_t)(block[8] | block[9] << 8);
+}
+
+static inline uint8_t zk_block_number(const uint8_t *block) {
+    return block[10];
+}
+
+static inline uint8_t zk_block_quotient(const uint8_t *block) {
+    return block[11];
+}
+
+static inline uint32_t zk_block_steps(const uint8_t *block) {
+    return (uint32_t)block[12] | (uint32_t)block[13] << 8 | (uint32_t)block[14] << 16 | (uint32_t)block[15] << 24;
+}
+
+/*
+ * The octant as the processor's flags show it: C0, C3 and C1 are bits 2, 1 and 0 of a finished step's quotient. The octant of a whole
+ * chain is in the sum of its steps' quotient bits modulo 8, not in the last step's alone: a partial step may touch the low three bits.
+ */
+static inline int zk_c0(uint32_t quotient) {
+    return (int)(quotient >> 2 & 1);
+}
+
+static inline int zk_c3(uint32_t quotient) {
+    return (int)(quotient >> 1 & 1);
+}
+
+static inline int zk_c1(uint32_t quotient) {
+    return (int)(quotient & 1);
+}
+
+#ifdef __cplusplus
+}
+#endif
+
+#endif

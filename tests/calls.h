@@ -1,0 +1,224 @@
+/*
+ * Every operation of the library in one shape for all four formats, so that a test is written once.
+ * All that is lent lies in a room of its own between filled bytes: a call that writes more than it may, or anything on a refusal, is seen.
+ */
+#ifndef CALLS_H
+#define CALLS_H
+
+#include "zukemoriha.h"
+
+#include <inttypes.h>
+#include <stdio.h>
+#include <stdlib.h>
+#include <string.h>
+
+enum { BINARY16, BINARY32, BINARY64, X87, FORMATS };
+
+struct format {
+    const char *name;
+    int digits;    /* hex digits of a pattern, as text */
+    int width;     /* bytes behind a value pointer */
+    int precision; /* p */
+    int bias;      /* also the largest exponent */
+    int smallest;  /* exponent of the smallest place */
+};
+
+static const struct format formats[FORMATS] = {
+    {"binary16", 4, 2, 11, 15, -24},
+    {"binary32", 8, 4, 24, 127, -149},
+    {"binary64", 16, 8, 53, 1023, -1074},
+    {"x87", 20, 8, 64, 16383, -16445},
+};
+
+/* The word is that of x87, and 0 in the other formats. */
+struct pattern {
+    uint64_t bits;
+    uint16_t word;
+};
+
+static inline int same(struct pattern a, struct pattern b) {
+    return a.bits == b.bits && a.word == b.word;
+}
+
+static inline int is_negative(int f, struct pattern x) {
+    return f == X87 ? x.word >> 15 : (int)(x.bits >> (8 * formats[f].width - 1) & 1);
+}
+
+/* A pattern as text; four at a time may stand in one printf. */
+static inline const char *text(int f, struct pattern x) {
+    static char rooms[4][24];
+    static int next;
+    char *room = rooms[next++ % 4];
+    if (f == X87)
+        sprintf(room, "%04X%016" PRIX64, (unsigned)x.word, x.bits);
+    else
+        sprintf(room, "%0*" PRIX64, formats[f].digits, x.bits);
+    return room;
+}
+
+/* What a call gave. What it did not promise to write is 0 here. */
+struct reply {
+    uint8_t number;
+    struct pattern value;
+    uint32_t quotient;
+    uint32_t steps;
+    int says;
+    int32_t exponent;
+    int touched; /* a byte was written that may not be */
+};
+
+enum { BEFORE = 16, ROOM = 64 };
+
+struct room {
+    union {
+        uint64_t aligned;
+        unsigned char bytes[ROOM];
+    } is;
+};
+
+/* What the rooms are filled with. A test that wants to be sure that no byte is equal by chance runs again with another. */
+static unsigned char filling = 0xA5;
+
+static inline void *lend(struct room *r) {
+    memset(r->is.bytes, filling, ROOM);
+    return r->is.bytes + BEFORE;
+}
+
+/* Nothing was written but, perhaps, the first `used` bytes of what was lent. */
+static inline int kept(const struct room *r, size_t used) {
+    size_t i;
+    for (i = 0; i < ROOM; i++)
+        if ((i < BEFORE || i >= BEFORE + used) && r->is.bytes[i] != filling)
+            return 0;
+    return 1;
+}
+
+static inline struct pattern taken(int f, const struct room *value, const struct room *word) {
+    struct pattern x = {0, 0};
+    uint16_t half;
+    uint32_t single;
+    if (f == BINARY16) {
+        memcpy(&half, value->is.bytes + BEFORE, sizeof half);
+        x.bits = half;
+    } else if (f == BINARY32) {
+        memcpy(&single, value->is.bytes + BEFORE, sizeof single);
+        x.bits = single;
+    } else {
+        memcpy(&x.bits, value->is.bytes + BEFORE, sizeof x.bits);
+    }
+    if (f == X87)
+        memcpy(&x.word, word->is.bytes + BEFORE, sizeof x.word);
+    return x;
+}
+
+static inline struct reply call_rem(int f, struct pattern x, struct pattern y, uint32_t kind) {
+    struct room value, word, quotient;
+    struct reply r = {0, {0, 0}, 0, 0, 0, 0, 0};
+    void *v = lend(&value), *w = lend(&word), *q = lend(&quotient);
+    int answered;
+    if (f == BINARY16)
+        r.number = zk_rem16((uint16_t)x.bits, (uint16_t)y.bits, kind, (uint16_t *)v, (uint32_t *)q);
+    else if (f == BINARY32)
+        r.number = zk_rem32((uint32_t)x.bits, (uint32_t)y.bits, kind, (uint32_t *)v, (uint32_t *)q);
+    else if (f == BINARY64)
+        r.number = zk_rem64(x.bits, y.bits, kind, (uint64_t *)v, (uint32_t *)q);
+    else
+        r.number = zk_rem80(x.bits, x.word, y.bits, y.word, kind, (uint64_t *)v, (uint16_t *)w, (uint32_t *)q);
+    answered = zk_is_answer(r.number);
+    if (answered) {
+        r.value = taken(f, &value, &word);
+        memcpy(&r.quotient, q, sizeof r.quotient);
+    }
+    r.touched = !kept(&value, answered ? (size_t)formats[f].width : 0) || !kept(&word, answered && f == X87 ? 2 : 0) ||
+                !kept(&quotient, answered ? 4 : 0);
+    return r;
+}
+
+static inline struct reply of_block(uint8_t number, const struct room *block) {
+    const uint8_t *b = block->is.bytes + BEFORE;
+    struct reply r = {number, {0, 0}, 0, 0, 0, 0, 0};
+    int answered = zk_is_answer(number);
+    if (answered) {
+        r.value.bits = zk_block_significand(b);
+        r.value.word = zk_block_word(b);
+        r.quotient = zk_block_quotient(b);
+        r.steps = zk_block_steps(b);
+    }
+    /* the number in the block is the one returned: a block that says otherwise is wrongly written */
+    r.touched = !kept(block, answered ? ZK_BLOCK_LENGTH : 0) || (answered && zk_block_number(b) != number);
+    return r;
+}
+
+static inline struct reply call_step(struct pattern x, struct pattern y, uint32_t size, uint32_t kind, size_t length) {
+    struct room block;
+    uint8_t *b = (uint8_t *)lend(&block);
+    return of_block(zk_step80(x.bits, x.word, y.bits, y.word, size, kind, b, length), &block);
+}
+
+static inline struct reply call_run(struct pattern x, struct pattern y, uint32_t size, uint32_t kind, uint32_t budget, size_t length) {
+    struct room block;
+    uint8_t *b = (uint8_t *)lend(&block);
+    return of_block(zk_run80(x.bits, x.word, y.bits, y.word, size, kind, budget, b, length), &block);
+}
+
+static inline struct reply call_scale(int f, struct pattern x, int32_t power) {
+    struct room value, word, says;
+    struct reply r = {0, {0, 0}, 0, 0, 0, 0, 0};
+    void *v = lend(&value), *w = lend(&word), *s = lend(&says);
+    int answered;
+    if (f == BINARY16)
+        r.number = zk_scale16((uint16_t)x.bits, power, (uint16_t *)v, (uint8_t *)s);
+    else if (f == BINARY32)
+        r.number = zk_scale32((uint32_t)x.bits, power, (uint32_t *)v, (uint8_t *)s);
+    else if (f == BINARY64)
+        r.number = zk_scale64(x.bits, power, (uint64_t *)v, (uint8_t *)s);
+    else
+        r.number = zk_scale80(x.bits, x.word, power, (uint64_t *)v, (uint16_t *)w, (uint8_t *)s);
+    answered = zk_is_answer(r.number);
+    if (answered) {
+        r.value = taken(f, &value, &word);
+        r.says = *(uint8_t *)s;
+    }
+    r.touched = !kept(&value, answered ? (size_t)formats[f].width : 0) || !kept(&word, answered && f == X87 ? 2 : 0) ||
+                !kept(&says, answered ? 1 : 0);
+    return r;
+}
+
+static inline struct reply call_split(int f, struct pattern x) {
+    struct room value, word, exponent;
+    struct reply r = {0, {0, 0}, 0, 0, 0, 0, 0};
+    void *v = lend(&value), *w = lend(&word), *e = lend(&exponent);
+    int answered;
+    if (f == BINARY16)
+        r.number = zk_split16((uint16_t)x.bits, (uint16_t *)v, (int32_t *)e);
+    else if (f == BINARY32)
+        r.number = zk_split32((uint32_t)x.bits, (uint32_t *)v, (int32_t *)e);
+    else if (f == BINARY64)
+        r.number = zk_split64(x.bits, (uint64_t *)v, (int32_t *)e);
+    else
+        r.number = zk_split80(x.bits, x.word, (uint64_t *)v, (uint16_t *)w, (int32_t *)e);
+    answered = zk_is_answer(r.number);
+    if (answered) {
+        r.value = taken(f, &value, &word);
+        memcpy(&r.exponent, e, sizeof r.exponent);
+    }
+    r.touched = !kept(&value, answered ? (size_t)formats[f].width : 0) || !kept(&word, answered && f == X87 ? 2 : 0) ||
+                !kept(&exponent, answered ? 4 : 0);
+    return r;
+}
+
+/* Differences: all are counted, the first ones printed. */
+static uint64_t differences;
+
+static inline int differs(void) {
+    return differences++ < 20;
+}
+
+static inline int verdict(void) {
+    if (differences > 20)
+        printf("(%" PRIu64 " more differences)\n", differences - 20);
+    printf("%s: %" PRIu64 " differences\n", differences ? "FAILED" : "ok", differences);
+    return differences != 0;
+}
+
+#endif

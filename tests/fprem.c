@@ -1,0 +1,277 @@
+/*
+ * Steps and runs against the processor's own FPREM and FPREM1, scaling against FSCALE, splitting against FXTRACT. x86-64 only.
+ *
+ *   fprem [PAIRS [SEED]]
+ */
+#include "operands.h"
+
+#if !defined(__x86_64__)
+
+int main(void) {
+    printf("no x87 unit here: nothing compared\n");
+    return 0;
+}
+
+#else
+
+/* Ten bytes as the x87 unit loads and stores them: every pattern passes unchanged, unsupported ones too. */
+struct ten {
+    unsigned char bytes[10];
+};
+
+static struct ten ten_of(struct pattern x) {
+    struct ten t;
+    memcpy(t.bytes, &x.bits, 8);
+    memcpy(t.bytes + 8, &x.word, 2);
+    return t;
+}
+
+static struct pattern of_ten(struct ten t) {
+    struct pattern x;
+    memcpy(&x.bits, t.bytes, 8);
+    memcpy(&x.word, t.bytes + 8, 2);
+    return x;
+}
+
+struct flags {
+    int c0, c1, c2, c3;
+    int inexact;
+};
+
+static struct flags flags_of(uint16_t status) {
+    struct flags f = {status >> 8 & 1, status >> 9 & 1, status >> 10 & 1, status >> 14 & 1, status >> 5 & 1};
+    return f;
+}
+
+static struct pattern processor_step(struct pattern x, struct pattern y, uint32_t kind, struct flags *flags) {
+    struct ten a = ten_of(x), b = ten_of(y), r;
+    uint16_t status;
+    if (kind == ZK_TRUNCATED)
+        __asm__ volatile("fnclex\n\tfldt %3\n\tfldt %2\n\tfprem\n\tfnstsw %0\n\tfstpt %1\n\tfstp %%st(0)"
+                         : "=a"(status), "=m"(r)
+                         : "m"(a), "m"(b)
+                         : "st", "st(1)");
+    else
+        __asm__ volatile("fnclex\n\tfldt %3\n\tfldt %2\n\tfprem1\n\tfnstsw %0\n\tfstpt %1\n\tfstp %%st(0)"
+                         : "=a"(status), "=m"(r)
+                         : "m"(a), "m"(b)
+                         : "st", "st(1)");
+    *flags = flags_of(status);
+    return of_ten(r);
+}
+
+static struct pattern processor_scale(struct pattern x, int32_t power, struct flags *flags) {
+    struct ten a = ten_of(x), r;
+    uint16_t status;
+    __asm__ volatile("fnclex\n\tfildl %3\n\tfldt %2\n\tfscale\n\tfnstsw %0\n\tfstpt %1\n\tfstp %%st(0)"
+                     : "=a"(status), "=m"(r)
+                     : "m"(a), "m"(power)
+                     : "st", "st(1)");
+    *flags = flags_of(status);
+    return of_ten(r);
+}
+
+static struct pattern processor_split(struct pattern x, int32_t *exponent) {
+    struct ten a = ten_of(x), r;
+    __asm__ volatile("fldt %2\n\tfxtract\n\tfstpt %0\n\tfistpl %1" : "=m"(r), "=m"(*exponent) : "m"(a) : "st", "st(1)");
+    return of_ten(r);
+}
+
+static int is_nan(struct pattern x) {
+    return (x.word & 32767) == 32767 && x.bits << 1 != 0;
+}
+
+/* The processor takes e = 0 with J = 1 as a number, document 01 refuses it: nothing to compare. */
+static int is_pseudo_denormal(struct pattern x) {
+    return (x.word & 32767) == 0 && x.bits >> 63;
+}
+
+static struct {
+    uint64_t chains, finished, partial, refused, skipped, usual;
+} count;
+
+static void print_step(const char *what, struct pattern x, struct pattern y, uint32_t kind, struct pattern theirs, struct flags c,
+                       struct reply ours) {
+    printf("%s %s by %s kind %u:\n", what, text(X87, x), text(X87, y), (unsigned)kind);
+    printf("  zukemoriha %s quotient %u number %u steps %u%s\n", text(X87, ours.value), (unsigned)ours.quotient, ours.number,
+           (unsigned)ours.steps, ours.touched ? ", wrote where it may not" : "");
+    printf("  processor  %s C0 %d C3 %d C1 %d C2 %d\n", text(X87, theirs), c.c0, c.c3, c.c1, c.c2);
+}
+
+static int gap_of(struct pattern x, struct pattern y) {
+    int ex, ey;
+    return leading_place(X87, x, &ex) && leading_place(X87, y, &ey) ? ex - ey : 0;
+}
+
+/* The library's step of the first size that gives the processor's value; of size 32 if none does. The usual size is tried first. */
+static struct reply partial_like(struct pattern x, struct pattern y, uint32_t kind, struct pattern theirs) {
+    uint32_t usual = 32 + (uint32_t)gap_of(x, y) % 32, i;
+    struct reply r;
+    for (i = 0; i < 32; i++) {
+        uint32_t size = 32 + (usual - 32 + i) % 32;
+        r = call_step(x, y, size, kind, ZK_BLOCK_LENGTH);
+        if (r.number == ZK_PARTIAL && !r.touched && r.steps == 1 && same(r.value, theirs)) {
+            count.usual += i == 0;
+            return r;
+        }
+    }
+    return call_step(x, y, 32, kind, ZK_BLOCK_LENGTH);
+}
+
+/* One step of the processor and the library's: 1 if they agree. */
+static int compare_step(struct pattern x, struct pattern y, uint32_t kind, uint32_t size, struct pattern theirs, struct flags c,
+                        struct reply *ours) {
+    int right;
+    if (c.c2) {
+        count.partial++;
+        *ours = partial_like(x, y, kind, theirs);
+        right = ours->number == ZK_PARTIAL && same(ours->value, theirs);
+    } else {
+        count.finished++;
+        *ours = call_step(x, y, size, kind, ZK_BLOCK_LENGTH);
+        right = ours->number == ZK_FINISHED && same(ours->value, theirs) && zk_c0(ours->quotient) == c.c0 &&
+                zk_c3(ours->quotient) == c.c3 && zk_c1(ours->quotient) == c.c1 && ours->quotient < 8 && ours->steps == 1;
+    }
+    right = right && !ours->touched;
+    if (!right && differs())
+        print_step("step of", x, y, kind, theirs, c, *ours);
+    return right;
+}
+
+/* The processor to its end, each step compared, then the run and the one-call remainder of the library with that end. */
+static void compare_chain(struct pattern first, struct pattern y, uint32_t kind, uint32_t size) {
+    struct pattern x = first, end;
+    struct flags c;
+    struct reply step, run, rem;
+    uint32_t parts = 0;
+    do {
+        end = processor_step(x, y, kind, &c);
+        if (!compare_step(x, y, kind, size, end, c, &step))
+            return;
+        parts = (parts + step.quotient) & 7;
+        x = end;
+    } while (c.c2);
+    count.chains++;
+    run = call_run(first, y, size, kind, UINT32_MAX, ZK_BLOCK_LENGTH);
+    rem = call_rem(X87, first, y, kind);
+    /* the parts that the processor took add up to the whole quotient, whatever sizes it took them in */
+    if (run.number != 0 || run.touched || !same(run.value, end) || run.quotient != parts)
+        if (differs())
+            print_step("run of", first, y, kind, end, c, run);
+    if (rem.number != 0 || rem.touched || !same(rem.value, end) || rem.quotient != parts)
+        if (differs())
+            print_step("remainder of", first, y, kind, end, c, rem);
+}
+
+/* What the library refuses, the processor answers with a NaN, and with nothing else. */
+static void compare_refusal(struct pattern x, struct pattern y, uint32_t kind, uint32_t size) {
+    struct flags c;
+    struct pattern theirs = processor_step(x, y, kind, &c);
+    struct reply ours = call_step(x, y, size, kind, ZK_BLOCK_LENGTH);
+    count.refused++;
+    if ((ours.number < ZK_UNSUPPORTED || ours.number > ZK_ZERO_DIVISOR || ours.touched || !is_nan(theirs)) && differs())
+        print_step("refusal of", x, y, kind, theirs, c, ours);
+}
+
+static int is_refused(struct pattern x, struct pattern y) {
+    int unsupported_or_nan = is_unsupported(x) || is_unsupported(y) || is_nan(x) || is_nan(y);
+    int infinite_dividend = (x.word & 32767) == 32767;
+    int zero_divisor = (y.word & 32767) == 0 && y.bits == 0;
+    return unsupported_or_nan || infinite_dividend || zero_divisor;
+}
+
+static void compare_pairs(uint64_t pairs, uint64_t *state) {
+    struct coverage seen;
+    uint64_t i;
+    memset(&seen, 0, sizeof seen);
+    for (i = 0; i < pairs; i++) {
+        struct pair p = any_pair(X87, state);
+        uint32_t size = (uint32_t)between(state, 32, 63), kind = (uint32_t)below(state, 2);
+        if (is_pseudo_denormal(p.x) || is_pseudo_denormal(p.y)) {
+            count.skipped++;
+            continue;
+        }
+        cover(&seen, X87, p);
+        if (is_refused(p.x, p.y))
+            compare_refusal(p.x, p.y, kind, size);
+        else
+            compare_chain(p.x, p.y, kind, size);
+    }
+    printf("chains: %" PRIu64 " compared to their end; %" PRIu64 " finished steps, %" PRIu64 " partial ones, of which %" PRIu64
+           " with n = 32 + D mod 32\n",
+           count.chains, count.finished, count.partial, count.usual);
+    printf("  refused by both %" PRIu64 ", pseudo-denormals not compared %" PRIu64 "\n", count.refused, count.skipped);
+    print_coverage(&seen);
+}
+
+/* Powers of every size, most of them around the ends of the format, where rounding and infinities are. */
+static int32_t any_power(struct pattern x, uint64_t *state) {
+    int place = 0;
+    leading_place(X87, x, &place);
+    switch (below(state, 6)) {
+    case 0: return formats[X87].smallest - place + between(state, -3, 70);
+    case 1: return formats[X87].bias - place + between(state, -2, 2);
+    case 2: return between(state, -100, 100);
+    case 3: return between(state, -40000, 40000);
+    case 4: return below(state, 2) ? INT32_MIN : INT32_MAX;
+    default: return (int32_t)(draw(state) >> 33) - (1 << 30);
+    }
+}
+
+static struct pattern any_operand(uint64_t *state) {
+    return below(state, 8) ? any_finite(X87, state) : below(state, 2) ? any_special(X87, state) : any_bits(X87, state);
+}
+
+static void compare_scaling(uint64_t cases, uint64_t *state) {
+    uint64_t i, rounded = 0, refused = 0;
+    for (i = 0; i < cases; i++) {
+        struct pattern x = any_operand(state);
+        int32_t power = any_power(x, state);
+        struct flags c;
+        struct pattern theirs;
+        struct reply ours;
+        int says, right;
+        if (is_pseudo_denormal(x))
+            continue;
+        theirs = processor_scale(x, power, &c);
+        ours = call_scale(X87, x, power);
+        says = !c.inexact ? ZK_EXACT : c.c1 ? ZK_UP : ZK_DOWN;
+        if (is_nan(theirs)) {
+            refused++;
+            right = ours.number == (is_unsupported(x) ? ZK_UNSUPPORTED : ZK_NAN);
+        } else {
+            rounded += says != ZK_EXACT;
+            right = ours.number == 0 && same(ours.value, theirs) && ours.says == says;
+        }
+        if ((!right || ours.touched) && differs())
+            printf("scaling of %s by %ld:\n  zukemoriha %s says %d number %u\n  processor  %s says %d\n", text(X87, x), (long)power,
+                   text(X87, ours.value), ours.says, ours.number, text(X87, theirs), says);
+    }
+    printf("scaling: %" PRIu64 " cases, %" PRIu64 " rounded, %" PRIu64 " refused by both\n", cases, rounded, refused);
+}
+
+/* Only nonzero finite values: FXTRACT answers zeros and infinities otherwise than document 01. */
+static void compare_splitting(uint64_t cases, uint64_t *state) {
+    uint64_t i;
+    for (i = 0; i < cases; i++) {
+        struct pattern x = any_finite(X87, state);
+        int32_t exponent;
+        struct pattern theirs = processor_split(x, &exponent);
+        struct reply ours = call_split(X87, x);
+        if ((ours.number != 0 || ours.touched || !same(ours.value, theirs) || ours.exponent != exponent) && differs())
+            printf("splitting of %s:\n  zukemoriha %s %ld number %u\n  processor  %s %ld\n", text(X87, x), text(X87, ours.value),
+                   (long)ours.exponent, ours.number, text(X87, theirs), (long)exponent);
+    }
+    printf("splitting: %" PRIu64 " cases\n", cases);
+}
+
+int main(int argc, char **argv) {
+    uint64_t pairs = argc > 1 ? strtoull(argv[1], NULL, 10) : 1000000;
+    uint64_t state = argc > 2 ? strtoull(argv[2], NULL, 10) : 1;
+    compare_pairs(pairs, &state);
+    compare_scaling(pairs, &state);
+    compare_splitting(pairs, &state);
+    return verdict();
+}
+
+#endif

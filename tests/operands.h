@@ -1,0 +1,282 @@
+/*
+ * A deterministic sequence of operand pairs that reaches every class of pattern and every band of the gap D (the exponent of the dividend
+ * less that of the divisor, each the place of the leading one, also for a denormal).
+ */
+#ifndef OPERANDS_H
+#define OPERANDS_H
+
+#include "calls.h"
+
+/* splitmix64 */
+static inline uint64_t draw(uint64_t *state) {
+    uint64_t z = *state += UINT64_C(0x9E3779B97F4A7C15);
+    z = (z ^ z >> 30) * UINT64_C(0xBF58476D1CE4E5B9);
+    z = (z ^ z >> 27) * UINT64_C(0x94D049BB133111EB);
+    return z ^ z >> 31;
+}
+
+static inline int below(uint64_t *state, int n) {
+    return (int)(draw(state) % (uint64_t)n);
+}
+
+/* both ends included */
+static inline int between(uint64_t *state, int least, int most) {
+    return least + below(state, most - least + 1);
+}
+
+/* A nonzero finite value before its format is known: the significand has its leading one at bit 63, the exponent is that one's place. */
+struct operand {
+    int negative;
+    int exponent;
+    uint64_t significand;
+};
+
+static inline struct operand operand_of(uint64_t n, int place) {
+    struct operand o = {0, place + 63, n};
+    while (o.significand >> 63 == 0) {
+        o.significand <<= 1;
+        o.exponent--;
+    }
+    return o;
+}
+
+static inline struct pattern signed_pattern(int f, int negative, uint64_t bits, int field) {
+    struct pattern x = {bits, 0};
+    if (f == X87)
+        x.word = (uint16_t)(negative << 15 | field);
+    else
+        x.bits |= (uint64_t)field << (formats[f].precision - 1) | (uint64_t)negative << (8 * formats[f].width - 1);
+    return x;
+}
+
+/* Bits that the format has no room for are dropped; the exponent is from the smallest place to the bias, so the leading one stays. */
+static inline struct pattern encode(int f, struct operand o) {
+    int p = formats[f].precision, bias = formats[f].bias;
+    uint64_t s = o.significand >> (64 - p);
+    if (o.exponent < 1 - bias)
+        return signed_pattern(f, o.negative, s >> (1 - bias - o.exponent), 0);
+    if (f != X87)
+        s &= ~(UINT64_C(1) << (p - 1));
+    return signed_pattern(f, o.negative, s, o.exponent + bias);
+}
+
+static inline uint64_t any_significand(uint64_t *state) {
+    const uint64_t top = UINT64_C(1) << 63;
+    switch (below(state, 8)) {
+    case 0: return top;
+    case 1: return ~UINT64_C(0) << below(state, 64);             /* ones from the top */
+    case 2: return top | (draw(state) >> between(state, 1, 63)); /* ones and zeros at the bottom */
+    case 3: return top | UINT64_C(1) << below(state, 63);        /* two bits */
+    case 4: return top | (draw(state) & ~(~UINT64_C(0) >> between(state, 2, 10))); /* a few high bits */
+    default: return top | draw(state);
+    }
+}
+
+enum { NEGATIVE, ZERO, ONE, LOW, TEN, MIDDLE, PLACES, FAR, THOUSAND, LARGEST, BANDS };
+
+static const char *const band_names[BANDS] = {"D<0", "0", "1", "2-9", "10-12", "13-51", "52-66", "67-999", "1000+", "largest"};
+
+static inline int largest_gap(int f) {
+    return formats[f].bias - formats[f].smallest;
+}
+
+static inline int band_of(int f, int gap) {
+    static const int most[] = {-1, 0, 1, 9, 12, 51, 66, 999};
+    int b;
+    if (gap == largest_gap(f))
+        return LARGEST;
+    for (b = NEGATIVE; b < THOUSAND; b++)
+        if (gap <= most[b])
+            return b;
+    return THOUSAND;
+}
+
+/* A gap of the band, or of the nearest one that the format has. */
+static inline int gap_in(int f, int band, uint64_t *state) {
+    static const int least[] = {0, 0, 1, 2, 10, 13, 52, 67, 1000}, most[] = {0, 0, 1, 9, 12, 51, 66, 999, 1 << 20};
+    int largest = largest_gap(f), from, to;
+    if (band == LARGEST)
+        return largest;
+    if (band == NEGATIVE)
+        return below(state, 2) ? -between(state, 1, 3) : -between(state, 1, largest);
+    from = least[band] < largest ? least[band] : largest;
+    to = most[band] < largest ? most[band] : largest;
+    return between(state, from, to);
+}
+
+/* Weights out of 64: gaps of thousands cost a thousand times what small ones do, so they are drawn seldom. */
+static inline int any_band(uint64_t *state) {
+    static const int weights[BANDS] = {9, 7, 7, 5, 9, 5, 14, 5, 2, 1};
+    int left = below(state, 64), b;
+    for (b = 0; left >= weights[b]; b++)
+        left -= weights[b];
+    return b;
+}
+
+struct pair {
+    struct pattern x, y;
+};
+
+static inline struct pair pair_with_gap(int f, int gap, uint64_t *state) {
+    int smallest = formats[f].smallest, bias = formats[f].bias;
+    int from = gap < 0 ? smallest - gap : smallest, to = gap > 0 ? bias - gap : bias;
+    struct operand x, y;
+    struct pair p;
+    y.exponent = below(state, 4) == 0 ? from : below(state, 4) == 0 ? to : between(state, from, to);
+    x.exponent = y.exponent + gap;
+    x.negative = below(state, 2);
+    y.negative = below(state, 2);
+    y.significand = any_significand(state);
+    switch (below(state, 8)) {
+    case 0: x.significand = y.significand; break;
+    case 1: x.significand = y.significand ^ UINT64_C(1) << (64 - formats[f].precision); break; /* a neighbour */
+    default: x.significand = any_significand(state);
+    }
+    p.x = encode(f, x);
+    p.y = encode(f, y);
+    return p;
+}
+
+/* x is an odd number of halves of y: the nearest quotient is a tie. */
+static inline struct pair tied_pair(int f, uint64_t *state) {
+    int p = formats[f].precision;
+    int small = below(state, 8) + 1;
+    uint64_t m = (draw(state) >> (64 - small)) | 1;
+    uint64_t k = (draw(state) >> (64 - between(state, 1, p - small))) | 1;
+    int place = below(state, 4) == 0 ? formats[f].smallest : between(state, formats[f].smallest, formats[f].bias - p);
+    struct operand x = operand_of(k * m, place), y = operand_of(m, place + 1);
+    struct pair r;
+    x.negative = below(state, 2);
+    y.negative = below(state, 2);
+    r.x = encode(f, x);
+    r.y = encode(f, y);
+    return r;
+}
+
+/* x87 patterns that are no numbers: e = 0 with J = 1, e from 1 with J = 0. */
+static inline struct pattern unsupported(uint64_t *state) {
+    const uint64_t top = UINT64_C(1) << 63;
+    uint64_t bits = below(state, 4) ? draw(state) : 0;
+    int negative = below(state, 2);
+    switch (below(state, 3)) {
+    case 0: return signed_pattern(X87, negative, bits | top, 0);
+    case 1: return signed_pattern(X87, negative, bits & ~top, between(state, 1, 32766));
+    default: return signed_pattern(X87, negative, bits & ~top, 32767);
+    }
+}
+
+static inline struct pattern infinity(int f, int negative) {
+    return signed_pattern(f, negative, f == X87 ? UINT64_C(1) << 63 : 0, 2 * formats[f].bias + 1);
+}
+
+static inline struct pattern any_nan(int f, uint64_t *state) {
+    struct pattern x = infinity(f, below(state, 2));
+    int fraction = formats[f].precision - 1;
+    uint64_t payload = draw(state) & (((UINT64_C(1) << (fraction - 1)) << 1) - 1);
+    x.bits |= below(state, 2) ? UINT64_C(1) << below(state, fraction) : payload ? payload : 1;
+    return x;
+}
+
+static inline struct pattern any_finite(int f, uint64_t *state) {
+    struct operand o;
+    o.negative = below(state, 2);
+    o.exponent = between(state, formats[f].smallest, formats[f].bias);
+    o.significand = any_significand(state);
+    return encode(f, o);
+}
+
+static inline struct pattern any_special(int f, uint64_t *state) {
+    switch (below(state, f == X87 ? 4 : 3)) {
+    case 0: return signed_pattern(f, below(state, 2), 0, 0);
+    case 1: return infinity(f, below(state, 2));
+    case 2: return any_nan(f, state);
+    default: return unsupported(state);
+    }
+}
+
+static inline struct pattern any_bits(int f, uint64_t *state) {
+    struct pattern x = {draw(state), 0};
+    if (f == X87)
+        x.word = (uint16_t)draw(state);
+    else
+        x.bits >>= 64 - 8 * formats[f].width;
+    return x;
+}
+
+static inline struct pair any_pair(int f, uint64_t *state) {
+    struct pair p;
+    switch (below(state, 32)) {
+    case 0:
+        p.x = any_bits(f, state);
+        p.y = any_bits(f, state);
+        return p;
+    case 1:
+        p.x = any_special(f, state);
+        p.y = any_special(f, state);
+        return p;
+    case 2:
+        p.x = any_special(f, state);
+        p.y = any_finite(f, state);
+        return p;
+    case 3:
+        p.x = any_finite(f, state);
+        p.y = any_special(f, state);
+        return p;
+    case 4:
+    case 5:
+    case 6: return tied_pair(f, state);
+    default: return pair_with_gap(f, gap_in(f, any_band(state), state), state);
+    }
+}
+
+/* An x87 pattern that document 01 calls unsupported. */
+static inline int is_unsupported(struct pattern x) {
+    int e = x.word & 32767, j = (int)(x.bits >> 63);
+    return e == 0 ? j : !j;
+}
+
+/* The place of the leading one, or 0 returned if the pattern is not nonzero and finite. */
+static inline int leading_place(int f, struct pattern x, int *place) {
+    int p = formats[f].precision, largest = 2 * formats[f].bias + 1, field, top = 63;
+    uint64_t s = x.bits;
+    if (f == X87) {
+        field = x.word & 32767;
+        if (is_unsupported(x))
+            return 0;
+    } else {
+        field = (int)(s >> (p - 1)) & largest;
+        s &= (UINT64_C(1) << (p - 1)) - 1;
+        if (field)
+            s |= UINT64_C(1) << (p - 1);
+    }
+    if (s == 0 || field == largest)
+        return 0;
+    while (s >> top == 0)
+        top--;
+    *place = formats[f].smallest + top + (field ? field - 1 : 0);
+    return 1;
+}
+
+/* How many pairs of each band there were; pairs that have no gap (zeros, infinities, NaNs, unsupported) are counted last. */
+struct coverage {
+    uint64_t bands[BANDS + 1];
+};
+
+static inline void cover(struct coverage *c, int f, struct pair p) {
+    int ex, ey;
+    if (leading_place(f, p.x, &ex) && leading_place(f, p.y, &ey))
+        c->bands[band_of(f, ex - ey)]++;
+    else
+        c->bands[BANDS]++;
+}
+
+static inline void print_coverage(const struct coverage *c) {
+    int b;
+    printf("  gaps:");
+    for (b = 0; b < BANDS; b++)
+        if (c->bands[b])
+            printf(" %s %" PRIu64 ",", band_names[b], c->bands[b]);
+    printf(" none %" PRIu64 "\n", c->bands[BANDS]);
+}
+
+#endif
