@@ -1,7 +1,6 @@
 # The C side: header, examples, tests from the outside, measurements, installation.
 # To be included by the Makefile; works alone too: make -f c.mk outside
 #
-#
 #   outside         the quick tests: header, examples, vectors, lent memory, binary16, the processor, the C library (about a minute)
 #   outside-long    the same comparisons with ten million operand pairs a format and more
 #   outside-half    all 2^32 pairs of binary16, both kinds (a quarter of an hour)

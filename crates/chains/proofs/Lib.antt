@@ -7,3 +7,4 @@ pub mod Lists
 pub mod Answer
 pub mod Demand3
 pub mod Spent
+pub mod Flags
