@@ -2,6 +2,7 @@
 use mathlib.Core.Path.{_≡_, refl, sym, ap, _∙_}
 use mathlib.Core.Bool.{Bool, true, false, cond}
 use Prim.Native.Nat.{ℕ, _+_, _*_, _/_, _%_, _<_}
+use native.Mathlib.Nat.{div-div-eq-div-mul}
 use native.Mathlib.Omega.{arith}
 use borrow.Author.Tests.{eqb-true, eqb-false}
 use lib.Dec.{eqb}
@@ -15,6 +16,13 @@ bit b h = go (eqb b 1) refl
     go true e = sym (eqb-true b 1 e)
     go false e = let n = eqb-false b 1 e in omega arith
 
+-- three digits of a number, from the highest
+three : (w : ℕ) → w / 4 % 2 * 4 + w / 2 % 2 * 2 + w % 2 ≡ w % 8
+three w =
+    let a : w / 2 / 2 ≡ w / 4 = div-div-eq-div-mul w 2 2 in
+    let b : w / 4 / 2 ≡ w / 8 = div-div-eq-div-mul w 4 2 in
+    omega arith
+
 -- C0, C3 and C1 are bits 2, 1 and 0
 pub flags-are-bits : (r : Reply) → cond (flagsOf r .c0) 1 0 * 4 + cond (flagsOf r .c3) 1 0 * 2 + cond (flagsOf r .c1) 1 0 ≡ r .whole % 8
-flags-are-bits r = rw (bit (r .whole / 4 % 2) (omega arith), bit (r .whole / 2 % 2) (omega arith), bit (r .whole % 2) (omega arith)) (omega arith)
+flags-are-bits r = rw (bit (r .whole / 4 % 2) (omega arith), bit (r .whole / 2 % 2) (omega arith), bit (r .whole % 2) (omega arith)) (three (r .whole))
