@@ -2,7 +2,7 @@
 use mathlib.Core.Path.{_≡_, refl, sym, ap, _∙_}
 use mathlib.Core.Bool.{Bool, true, false, not}
 use Prim.Native.Nat.{ℕ, _+_, _-_, _*_, _/_, _%_, _^_, _≤_, _<_}
-use native.Mathlib.Nat.{mod-add-div, add-mul, mul-assoc, add-mul-mod-self-left, mul-div-cancel, mul-mod-left, add-zero, mul-comm, mul-sub, mul-lt-mul-of-pos-right, mul-le-mul-right, eq-of-mul-eq-mul-right, mul-div-mul-right}
+use native.Mathlib.Nat.{mod-add-div, add-mul, mul-assoc, add-mul-mod-self-left, mul-div-cancel, mul-mod-left, add-zero, mul-comm, mul-sub, mul-lt-mul-of-pos-right, mul-le-mul-right, eq-of-mul-eq-mul-right}
 use native.Mathlib.Omega.{arith}
 use borrow.Author.Tests.{lt-ltb, le-ltb, eq-eqb, ne-eqb, eqb-false, eqb-true}
 use lib.Dec.{T, ltb, eqb, ltb→lt, nltb→le}

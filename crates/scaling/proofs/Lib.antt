@@ -1,1 +1,7 @@
 pub mod TiesToEven
+pub mod Powers
+pub mod Scaled
+pub mod Classes
+pub mod Told
+pub mod Parts
+pub mod Formats

@@ -1,34 +1,26 @@
 -- The cut by one test: a quotient goes up where twice the left-over, and one more if the quotient is odd, pass the divisor.
 -- Assumes nothing.
-use mathlib.Core.Path.{_≡_, refl, sym}
-use mathlib.Core.Bool.{Bool, true, false, cond, _&&_, _||_}
+use mathlib.Core.Path.{_≡_, refl}
+use mathlib.Core.Bool.{Bool, true, false, cond}
 use Prim.Native.Nat.{ℕ, _+_, _*_, _/_, _%_, _^_, _<_}
 use native.Mathlib.Nat.{add-zero, div-eq-of-lt, div-lt-self, mod-eq-of-lt, mod-le, mod-lt}
 use native.Mathlib.Omega.{arith}
-use borrow.Author.Tests.{lt-ltb, le-ltb, ltb-true, ltb-false, eqb-true, eqb-false}
+use borrow.Author.Tests.{ltb-true, eqb-true}
 use lib.Dec.{ltb, eqb}
 use lib.Pow.{pow-pos}
 use Rattle.definitions.specs.Division.{roundsUp}
 use Rattle.definitions.specs.Cut.{cut, direction}
 use Rattle.definitions.specs.declared.Kind.the-variants.{Nearest}
 use Rattle.definitions.specs.declared.Rounding.the-variants.{Exact, Up, Down}
+use Rattle.laws.proofs.Division.{rounds-up-once}
 use Rattle.scaling.specs.Cut.{cutOf, roundedOf}
 use Rattle.scaling.specs.declared.cut.Cut.{Cut}
 
 module _ (q r m : ℕ) where
-  pub one-test : roundsUp Nearest q r m ≡ ltb m (r * 2 + q % 2)
-  one-test = go (ltb m (2 * r)) (eqb m (2 * r)) (eqb (q % 2) 1) refl refl refl
-    where
-      go : (past half odd : Bool) → ltb m (2 * r) ≡ past → eqb m (2 * r) ≡ half → eqb (q % 2) 1 ≡ odd → past || (half && odd) ≡ ltb m (r * 2 + q % 2)
-      go true half odd e f g = sym (lt-ltb m (r * 2 + q % 2) (omega (arith, ltb-true m (2 * r) e)))
-      go false true true e f g = sym (lt-ltb m (r * 2 + q % 2) (omega (arith, eqb-true m (2 * r) f, eqb-true (q % 2) 1 g)))
-      go false true false e f g = sym (le-ltb m (r * 2 + q % 2) (omega (arith, eqb-true m (2 * r) f, eqb-false (q % 2) 1 g)))
-      go false false odd e f g = sym (le-ltb m (r * 2 + q % 2) (omega (arith, ltb-false m (2 * r) e, eqb-false m (2 * r) f)))
-
   -- the definition's answer is the code's: where nothing is left over, the test fails
   pub rounded-once : 0 < m → record { quotient = cond (roundsUp Nearest q r m) (q + 1) q; says = direction (eqb r 0) (roundsUp Nearest q r m) }
       ≡ roundedOf q r (ltb m (r * 2 + q % 2))
-  rounded-once h = rw one-test (go (ltb m (r * 2 + q % 2)) (eqb r 0) refl refl)
+  rounded-once h = rw (rounds-up-once q r m) (go (ltb m (r * 2 + q % 2)) (eqb r 0) refl refl)
     where
       go : (up none : Bool) → ltb m (r * 2 + q % 2) ≡ up → eqb r 0 ≡ none
           → _≡_ {A = Cut} (record { quotient = cond up (q + 1) q; says = direction none up })

@@ -1,0 +1,18 @@
+-- `split64` meets its contract: the shape is that of binary64. Assumes nothing.
+use native.Mathlib.Omega.{arith}
+use Rattle.formats.proofs.Shapes.{sound64}
+use borrow.Author.Needs.{needs}
+use Rattle.scaling.proofs.split.split64.Statement.{statement}
+use Rattle.scaling.proofs.split.split64.Tie as tie
+
+shape-requires : tie.Need-shape-requires
+shape-requires c κs = search needs
+
+split-in-requires : tie.Need-split-in-requires
+split-in-requires c κs = rw (c .shape .ensures) (sound64, omega arith)
+
+returns : tie.Need-returns
+returns c = rw (c .before .shape .ensures) at (c .split-in .ensures)
+
+pub split64-spec : {M : Type 1} → statement M
+split64-spec = tie.close (tie.spec shape-requires split-in-requires returns)
