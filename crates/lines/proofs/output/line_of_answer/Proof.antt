@@ -1,0 +1,72 @@
+-- `line_of_answer` meets its contract, case by case. Assumes nothing.
+use mathlib.Core.Path.{_≡_, refl, sym, ap, _∙_, subst}
+use Prim.Native.Nat.{ℕ, _+_, _≤_, _<_}
+use native.Mathlib.Omega.{arith}
+use borrow.Author.Needs.{needs}
+use Rattle.definitions.specs.Format.{binary64}
+use Rattle.definitions.specs.Remainder.{Remainder}
+use Rattle.definitions.specs.Answers.{remainderTold, refusalNumber}
+use Rattle.definitions.specs.Line.{answerLine}
+use Rattle.definitions.specs.declared.RemainderAnswer.{RemainderAnswer}
+use Rattle.lines.specs.Output.{outputOf}
+use Rattle.lines.proofs.OneDigit.{refusal-digit}
+use Rattle.lines.proofs.output.line_of_answer.Statement.{statement}
+use Rattle.lines.proofs.output.line_of_answer.Tie as tie
+use Rattle.lines.proofs.output.line_of_answer.Reads as reads
+use Rattle.lines.proofs.output.line_of_answer.Lts as lts
+use Rattle.lines.proofs.output.digits_line.Reads as digits-line-reads
+use Rattle.lines.proofs.output.number_of.Reads as number-of-reads
+
+enum-known-answer : tie.Need-enum-known-answer
+enum-known-answer c = search needs
+
+-- the quotient bits that are shown
+one-digit : (c : tie.After-known-told) → c .before .answer .given .0 .1 .0 ≤ 9
+unfolding remainderTold
+one-digit c =
+    let s = c .before .before .before in
+    subst (λ (a : RemainderAnswer). remainderTold binary64 a .quotient ≤ 9) (c .before .answer .given .1) (s .pre)
+
+cast-digits-line : tie.Need-cast-digits-line
+cast-digits-line c = let q = one-digit c in omega arith
+
+add-digits-line : tie.Need-add-digits-line
+add-digits-line c = let q = one-digit c in omega arith
+
+digits-line-requires : tie.Need-digits-line-requires
+digits-line-requires c κs = search needs
+
+enum-known-answer-2 : tie.Need-enum-known-answer-2
+enum-known-answer-2 c = search needs
+
+number-of-requires : tie.Need-number-of-requires
+number-of-requires c κs = search needs
+
+add-digits-line-2 : tie.Need-add-digits-line-2
+add-digits-line-2 c = rw (c .number-of .ensures) (omega (arith, refusal-digit (c .before .before .answer2 .given .0 .0)))
+
+digits-line-requires-2 : tie.Need-digits-line-requires-2
+digits-line-requires-2 c κs = search needs
+
+returns : tie.Need-returns
+unfolding remainderTold answerLine
+returns c = rw (c .before .before .answer .given .1) (c .digits-line .ensures)
+
+returns-2 : tie.Need-returns-2
+unfolding remainderTold answerLine
+returns-2 c = rw (c .before .before .before .answer2 .given .1, sym (c .before .number-of .ensures)) (c .digits-line2 .ensures)
+
+pub line-of-answer-spec : {M : Type 1} → statement M
+line-of-answer-spec =
+    tie.close
+    (tie.spec
+    enum-known-answer
+    cast-digits-line
+    add-digits-line
+    digits-line-requires
+    enum-known-answer-2
+    number-of-requires
+    add-digits-line-2
+    digits-line-requires-2
+    returns
+    returns-2)

@@ -1,0 +1,78 @@
+-- What the line program writes for a whole input, and how that comes about piece by piece. Definitions only.
+use Prim.Native.Nat.{ℕ, _+_, _≤_}
+use mathlib.Core.Path.{_≡_}
+use mathlib.Core.Bool.{cond}
+use mathlib.Core.List.{List, [], _∷_, _++_, flatten}
+use lib.Dec.{eqb}
+use lib.ListN.{length, take, drop}
+use Rattle.definitions.specs.Line.{lineFor}
+use Rattle.lines.specs.declared.stream.Pass.{Pass}
+use Rattle.lines.specs.declared.stream.Turn.{Turn}
+
+abbrev pub newline : ℕ
+newline = 10
+
+-- "Every output line ends with a newline."
+abbrev pub answered : List ℕ → List ℕ
+answered line = lineFor line ++ (newline ∷ [])
+
+-- one byte more after a line that has begun: what is written for it, and the line that has then begun
+abbrev pub writtenAt : List ℕ → ℕ → List ℕ
+writtenAt line c = cond (eqb c newline) (answered line) []
+
+abbrev pub begunAt : List ℕ → ℕ → List ℕ
+begunAt line c = cond (eqb c newline) [] (line ++ (c ∷ []))
+
+-- the same of many bytes
+abbrev pub written : List ℕ → List ℕ → List ℕ
+written line [] = []
+written line (c ∷ cs) = writtenAt line c ++ written (begunAt line c) cs
+
+abbrev pub begun : List ℕ → List ℕ → List ℕ
+begun line [] = line
+begun line (c ∷ cs) = begun (begunAt line c) cs
+
+-- "A last line needs no newline; empty input writes nothing."
+abbrev pub lastWritten : List ℕ → List ℕ
+lastWritten [] = []
+lastWritten (c ∷ cs) = answered (c ∷ cs)
+
+unfoldable pub outputFor : List ℕ → List ℕ
+outputFor input = written [] input ++ lastWritten (begun [] input)
+
+-- What is kept of a line that has begun: of a line that is longer than any line with an answer, enough to know it by.
+abbrev pub keptBytes : ℕ
+keptBytes = 34
+
+-- what is written where the input comes in pieces, each taken after what was kept
+unfoldable pub inPieces : List ℕ → List (List ℕ) → List ℕ
+inPieces line [] = lastWritten line
+inPieces line (p ∷ ps) = written [] (line ++ p) ++ inPieces (take keptBytes (begun [] (line ++ p))) ps
+
+-- it does not matter where a read cuts the input
+abbrev pub CutAnywhere : Type 0
+CutAnywhere = (pieces : List (List ℕ)) → inPieces [] pieces ≡ outputFor (flatten pieces)
+
+-- The first n bytes of a list are those told. The last two parts follow from the others: with them a caller lends that part with no proof of its own.
+pub record Holds (list told : List ℕ) (n : ℕ) : Type 0 where
+  pub bytes : take n list ≡ told
+  pub end : n ≡ length told
+  pub inside : n ≤ length list
+  pub part : n ≡ length (take n list)
+
+-- `out` up to `next` is what it was up to `at`, and the answer of a line
+pub record Put (line out out' : List ℕ) (at next : ℕ) : Type 0 where
+  pub bytes : take next out' ≡ take at out ++ answered line
+  pub end : next ≡ at + length (answered line)
+
+-- the lines that end in an input answered, and where the line begins that has not ended
+pub record Passed (input out' : List ℕ) (pass : Pass) : Type 0 where
+  pub answers : Holds out' (written [] input) (pass .written)
+  pub rest : drop (pass .begin) input ≡ begun [] input
+  pub inside : pass .begin ≤ length input
+
+-- the same, and what is kept of the line that has begun
+pub record Turned (input buffer' out' : List ℕ) (turn : Turn) : Type 0 where
+  pub answers : Holds out' (written [] input) (turn .written)
+  pub rest : Holds buffer' (take keptBytes (begun [] input)) (turn .kept)
+  pub short : turn .kept ≤ keptBytes

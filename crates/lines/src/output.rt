@@ -1,0 +1,93 @@
+// The lines that are written: an answer, and `bad line`.
+use crate::hex::upper_hex;
+use definitions::Refusal;
+use definitions::RemainderAnswer;
+ghost use mathlib.Core.Path.{_≡_};
+ghost use mathlib.Core.List.{[], _∷_, _++_};
+ghost use Prim.Native.Nat.{_≤_};
+ghost use Rattle.definitions.specs.Format.{binary64};
+ghost use Rattle.definitions.specs.Answers.{refusalNumber, remainderTold};
+ghost use Rattle.definitions.specs.Line.{hexDigits, answerLine, badLine};
+ghost use Rattle.lines.specs.Output.{outputOf};
+
+// A line of output without its newline: the first `len` bytes, then zeros.
+pub struct Output {
+    pub bytes: [u8; 20],
+    pub len: usize,
+}
+
+pub fn bad_line() -> Output
+    ensures { λ r. ⌜ r ≡ outputOf badLine ⌝ }
+{
+    Output {
+        bytes: [
+            b'b',
+            b'a',
+            b'd',
+            b' ',
+            b'l',
+            b'i',
+            b'n',
+            b'e',
+            0,
+            0,
+            0,
+            0,
+            0,
+            0,
+            0,
+            0,
+            0,
+            0,
+            0,
+            0,
+        ],
+        len: 8,
+    }
+}
+
+fn number_of(why: Refusal) -> u8
+    ensures { λ r. ⌜ r ≡ refusalNumber why ⌝ }
+{
+    match why {
+        Refusal::Misfit => 9,
+        Refusal::Missized => 6,
+        Refusal::Unsupported => 2,
+        Refusal::Nan => 3,
+        Refusal::Infinite => 4,
+        Refusal::ZeroDivisor => 5,
+        Refusal::ZeroSplit => 8,
+    }
+}
+
+// A number's 16 digits and two single ones, single spaces between them.
+fn digits_line(value: u64, quotient_digit: u8, number_digit: u8) -> Output
+    ensures { λ r. ⌜ r ≡ outputOf (hexDigits 16 value ++ (32 ∷ «quotient_digit» ∷ 32 ∷ «number_digit» ∷ [])) ⌝ }
+{
+    let mut bytes = [b' '; 20];
+    bytes[17] = quotient_digit;
+    bytes[19] = number_digit;
+    let mut left = value;
+    let mut k: usize = 16;
+    while 0 < k {
+        k -= 1;
+        bytes[k] = upper_hex(left);
+        left /= 16;
+    }
+    Output { bytes, len: 20 }
+}
+
+// The line of an answer. Quotient bits are below 8, and a digit is all that they have room for.
+pub fn line_of_answer(answer: RemainderAnswer) -> Output
+    requires { ⌜ remainderTold binary64 answer .quotient ≤ 9 ⌝ }
+    ensures { λ r. ⌜ r ≡ outputOf (answerLine (remainderTold binary64 answer)) ⌝ }
+{
+    match answer {
+        RemainderAnswer::Finished { value, quotient } => {
+            digits_line(value, b'0' + (quotient as u8), b'0')
+        }
+        RemainderAnswer::Refused(why) => {
+            digits_line(0x7FF8_0000_0000_0000, b'0', b'0' + number_of(why))
+        }
+    }
+}
