@@ -5,6 +5,7 @@
 #   outside-long    the same comparisons with ten million operand pairs a format and more
 #   outside-half    all 2^32 pairs of binary16, both kinds (a quarter of an hour)
 #   bench           times and ratios, then instructions by callgrind
+#   bench-lines     the line program against the same job by scanf, fmod and printf
 #   examples        builds them and holds what they write to the stored text
 #   install         PREFIX=... [DESTDIR=...]
 #   install-check   installs under target/ and builds an example by pkg-config
@@ -22,7 +23,7 @@ c_flags = -std=c99 -O2 $(c_warn) -Iinclude
 # what is compared or measured is the C library's function, not what the compiler makes of its name
 c_nobuiltin = $(foreach n,fmod remainder remquo,-fno-builtin-$(n) -fno-builtin-$(n)f -fno-builtin-$(n)l)
 
-.PHONY: outside outside-long outside-half bench examples header install install-check
+.PHONY: outside outside-long outside-half bench bench-lines examples header install install-check
 
 # rt proves again what has changed. Another LIB is taken as it is.
 target/staticlib/libcapi.a: $(shell find crates -name '*.rt' -o -name '*.antt') crates.txt
@@ -74,6 +75,11 @@ outside-half: $(c_out)/half
 bench: $(c_out)/bench
 	$(c_out)/bench
 	sh bench/callgrind.sh $(c_out)/bench
+
+bench-lines: | $(c_out)
+	rt check remainder_lines
+	$(CC) -std=c99 -O2 $(c_warn) bench/lines.c -lm -o $(c_out)/lines
+	sh bench/lines.sh $(c_out)/lines target/bin/remainder_lines
 
 install: $(LIB)
 	install -d $(DESTDIR)$(PREFIX)/lib/pkgconfig $(DESTDIR)$(PREFIX)/include
