@@ -26,13 +26,14 @@ pub moved : (o l : List ℕ) (b k : ℕ) → b + k < length o → length l ≡ l
     → (take (k + 1) (set l k (getD l (b + k) 0)) ≡ take (k + 1) (drop b o)) × (drop (k + 1) (set l k (getD l (b + k) 0)) ≡ drop (k + 1) o)
 moved o l b k h e t d =
     let swap : b + k ≡ k + b = omega arith in
-    let same : getD l (b + k) 0 ≡ getD o (b + k) 0 = rw swap (sym (getD-drop k l b 0) ∙ ap (λ (m : List ℕ). getD m b 0) d ∙ getD-drop k o b 0) in
-    (rw add-one
-    (take-suc-set l k (getD l (b + k) 0) (omega arith)
-    ∙ ap (λ (m : List ℕ). m ++ (getD l (b + k) 0 ∷ [])) t
-    ∙ ap (λ (c : ℕ). take k (drop b o) ++ (c ∷ [])) (same ∙ sym (getD-drop b o k 0))
-    ∙ sym (take-suc (drop b o) k 0 (rw (length-drop b o) (omega arith)))),
-    drop-set-lt (k + 1) l k (getD l (b + k) 0) (omega arith) ∙ sym (drop-drop 1 k l) ∙ ap (drop 1) d ∙ drop-drop 1 k o)
+    let same : getD l (b + k) 0 ≡ getD o (b + k) 0 = rw swap (sym (getD-drop k l b 0) ∙ ap (λ (m : List ℕ). getD m b 0) d ∙ getD-drop k o b 0) in (
+      rw add-one
+          (take-suc-set l k (getD l (b + k) 0) (omega arith)
+          ∙ ap (λ (m : List ℕ). m ++ (getD l (b + k) 0 ∷ [])) t
+          ∙ ap (λ (c : ℕ). take k (drop b o) ++ (c ∷ [])) (same ∙ sym (getD-drop b o k 0))
+          ∙ sym (take-suc (drop b o) k 0 (rw (length-drop b o) (omega arith)))),
+      drop-set-lt (k + 1) l k (getD l (b + k) 0) (omega arith) ∙ sym (drop-drop 1 k l) ∙ ap (drop 1) d ∙ drop-drop 1 k o,
+    )
 
 pub drop-take : (b f : ℕ) (l : List ℕ) → drop b (take f l) ≡ take (f - b) (drop b l)
 drop-take zero f l = ap (λ (n : ℕ). take n l) (sym (sub-zero f))

@@ -105,7 +105,7 @@ in-pieces line (p ∷ ps) w =
     let rest = flatten ps in
     let here : begun [] line ≡ line = begun-line [] line w in
     let told : written [] (line ++ p) ≡ written line p =
-        written-append [] line p ∙ ap (λ (l : List ℕ). l ++ written (begun [] line) p) w ∙ ap (λ (l : List ℕ). written l p) here in
+    written-append [] line p ∙ ap (λ (l : List ℕ). l ++ written (begun [] line) p) w ∙ ap (λ (l : List ℕ). written l p) here in
     let left : begun [] (line ++ p) ≡ begun line p = begun-append [] line p ∙ ap (λ (l : List ℕ). begun l p) here in
     let k = take keptBytes (begun line p) in
     let e : take keptBytes k ≡ take keptBytes (begun line p) = take-min keptBytes keptBytes (begun line p) in

@@ -32,11 +32,7 @@ fn is_hex(c: u8) -> bool
 fn digit_in(c: u8) -> u8
     ensures { λ r. ⌜ r ≡ digitIn c ⌝ }
 {
-    if is_hex(c) {
-        c % 16 + c / 64 * 9
-    } else {
-        16
-    }
+    if is_hex(c) { c % 16 + c / 64 * 9 } else { 16 }
 }
 
 // The number that 16 hex digits stand for.

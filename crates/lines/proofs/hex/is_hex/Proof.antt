@@ -33,9 +33,10 @@ returns-2 c =
 -- src/hex.rt:21:1
 returns-3 : tie.Need-returns-3
 returns-3 c =
-    simp
-    (sym (c .before .before .before .before .between .ensures) ∙ c .before .before .before .if1 .left,
-    sym (c .before .before .between2 .ensures) ∙ c .before .if2 .left)
+    simp (
+      sym (c .before .before .before .before .between .ensures) ∙ c .before .before .before .if1 .left,
+      sym (c .before .before .between2 .ensures) ∙ c .before .if2 .left,
+    )
     (c .between3 .ensures)
 
 pub is-hex-spec : {M : Type 1} → statement M

@@ -44,7 +44,7 @@ returns c =
     let long = length-append (lineFor (s .args .line .now)) (newline ∷ []) in
     record {
       bytes = put .1 ∙ ap (λ (l : List ℕ). take (s .args .at) (s .args .out .now) ++ (l ++ (newline ∷ []))) shown;
-      end = omega (arith, put .0, ap (λ (o : Output). o .len) line)
+      end = omega (arith, put .0, ap (λ (o : Output). o .len) line);
     }
 
 pub answer-at-spec : {M : Type 1} → statement M

@@ -61,9 +61,10 @@ loop-again c =
     let xs = s .args .input .now in
     ⊎-elim
     (λ w.
-    rw (w .6, w .7, w .8)
-    (line-ended xs (l .i) (c .before .before .loop-test .taken) (l .out) _ (l .begin) (l .at) _ (w .0 .taken) (l .inv .0) (w .3 .ensures),
-    omega (arith, l .inv .1, w .3 .kept)))
+    rw (w .6, w .7, w .8) (
+      line-ended xs (l .i) (c .before .before .loop-test .taken) (l .out) _ (l .begin) (l .at) _ (w .0 .taken) (l .inv .0) (w .3 .ensures),
+      omega (arith, l .inv .1, w .3 .kept),
+    ))
     (λ w. rw (w .1, w .2, w .3) (line-longer xs (l .i) (c .before .before .loop-test .taken) (l .out) (l .begin) (l .at) (w .0 .left) (l .inv .0), l .inv .1))
     (c .if1 .came)
 

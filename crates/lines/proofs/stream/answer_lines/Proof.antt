@@ -57,7 +57,7 @@ returns c =
     let filled = s .args .filled in
     let begin = pass .result .begin in
     let long : length (drop begin (take filled buffer)) ≡ filled - begin =
-        length-drop begin (take filled buffer) ∙ ap (λ (n : ℕ). n - begin) (length-take-le filled buffer (s .pre .0)) in
+    length-drop begin (take filled buffer) ∙ ap (λ (n : ℕ). n - begin) (length-take-le filled buffer (s .pre .0)) in
     record {
       answers = pass .ensures .answers;
       rest =

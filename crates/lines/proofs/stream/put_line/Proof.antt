@@ -47,10 +47,11 @@ loop-less c = omega arith
 loop-again : tie.Need-loop-again Inv-loop μ-loop
 loop-again c =
     let l = c .before .loop in
-    let s = c .before .before .before in
-    (omega arith,
-    rw (add-one, l .inv .1) (paste-suc (s .args .out .now) (s .args .at) (s .args .line .bytes) (l .k) 0 (omega arith) (omega arith)),
-    simp length-set (omega arith))
+    let s = c .before .before .before in (
+      omega arith,
+      rw (add-one, l .inv .1) (paste-suc (s .args .out .now) (s .args .at) (s .args .line .bytes) (l .k) 0 (omega arith) (omega arith)),
+      simp length-set (omega arith),
+    )
 
 -- src/stream.rt:23:9
 add-out-2 : tie.Need-add-out-2 Inv-loop μ-loop
@@ -77,10 +78,11 @@ returns : tie.Need-returns Inv-loop μ-loop
 returns c =
     let l = c .before .loop in
     let s = c .before .before .before in
-    let all : l .k ≡ 20 = omega arith in
-    (refl,
-    rw (l .inv .1, all)
-    (ended (s .args .out .now) (s .args .at) (s .args .line .bytes) (s .args .line .len) 20 10 (omega arith) (omega arith) (omega arith)))
+    let all : l .k ≡ 20 = omega arith in (
+      refl,
+      rw (l .inv .1, all)
+          (ended (s .args .out .now) (s .args .at) (s .args .line .bytes) (s .args .line .len) 20 10 (omega arith) (omega arith) (omega arith)),
+    )
 
 pub put-line-spec : {M : Type 1} → statement M
 put-line-spec =
