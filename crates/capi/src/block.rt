@@ -1,0 +1,30 @@
+// The answer block of the step and the run.
+ghost use mathlib.Core.Path.{_≡_};
+ghost use lib.ListN.{length};
+ghost use Rattle.definitions.specs.Block.{blockOf};
+ghost use Rattle.capi.specs.Interface.{pattern};
+
+pub const BLOCK_LENGTH: usize = 16;
+
+// Bytes in a row, little-endian: a pattern's significand and word, the number, the quotient bits and the steps.
+pub fn fill(block: &mut [u8], significand: u64, word: u16, number: u8, quotient: u8, steps: u32)
+    requires { ⌜ length (now block) ≡ 16 ⌝ }
+    ensures { λ _. ⌜ now (block .exit) ≡ blockOf (record { number = number; value = pattern significand word; quotient = quotient; steps = steps }) ⌝ }
+{
+    block[0] = (significand % 256) as u8;
+    block[1] = ((significand >> 8) % 256) as u8;
+    block[2] = ((significand >> 16) % 256) as u8;
+    block[3] = ((significand >> 24) % 256) as u8;
+    block[4] = ((significand >> 32) % 256) as u8;
+    block[5] = ((significand >> 40) % 256) as u8;
+    block[6] = ((significand >> 48) % 256) as u8;
+    block[7] = (significand >> 56) as u8;
+    block[8] = (word % 256) as u8;
+    block[9] = (word >> 8) as u8;
+    block[10] = number;
+    block[11] = quotient;
+    block[12] = (steps % 256) as u8;
+    block[13] = ((steps >> 8) % 256) as u8;
+    block[14] = ((steps >> 16) % 256) as u8;
+    block[15] = (steps >> 24) as u8;
+}
