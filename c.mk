@@ -3,7 +3,7 @@
 #
 #   outside         the quick tests: header, examples, vectors, lent memory, binary16, the processor, the C library (about a minute)
 #   outside-long    the same comparisons with ten million operand pairs a format and more
-#   outside-half    all 2^32 pairs of binary16, both kinds (a quarter of an hour)
+#   outside-half    all 2^32 pairs of binary16, both kinds, against whole-number division and the second implementation (some 40 minutes)
 #   bench           times and ratios, then instructions by callgrind
 #   bench-lines     the line program against the same job by scanf, fmod and printf
 #   examples        builds them and holds what they write to the stored text
@@ -30,6 +30,10 @@ target/staticlib/libcapi.a: $(shell find crates -name '*.rt' -o -name '*.antt') 
 	rt staticlib capi
 	touch $@
 
+target/staticlib/libsecond.a: $(shell find crates/second -name '*.rt' -o -name '*.antt')
+	rt staticlib second
+	touch $@
+
 $(c_out):
 	mkdir -p $@
 
@@ -38,6 +42,9 @@ $(c_out)/%: tests/%.c tests/calls.h tests/operands.h include/zukemoriha.h $(LIB)
 
 $(c_out)/%: examples/%.c include/zukemoriha.h $(LIB) | $(c_out)
 	$(CC) $(c_flags) $< $(LIB) -o $@
+
+$(c_out)/second: tests/second.c include/zukemoriha.h $(LIB) target/staticlib/libsecond.a | $(c_out)
+	$(CC) $(c_flags) $< $(LIB) target/staticlib/libsecond.a -o $@
 
 $(c_out)/host: tests/host.cc include/zukemoriha.h $(LIB) | $(c_out)
 	$(CXX) -O2 $(c_warn) -Iinclude $< $(LIB) -o $@
@@ -69,8 +76,9 @@ outside-long: $(c_out)/fprem $(c_out)/libm
 	$(c_out)/fprem 10000000 2
 	$(c_out)/libm 10000000 2
 
-outside-half: $(c_out)/half
+outside-half: $(c_out)/half $(c_out)/second
 	$(c_out)/half 1
+	$(c_out)/second
 
 bench: $(c_out)/bench
 	$(c_out)/bench

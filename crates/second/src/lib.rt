@@ -10,3 +10,4 @@ pub mod remainder; // remainder.rt: the truncated and the nearest remainder
 pub mod steps; // steps.rt: the partial step and the budgeted run, for x87
 pub mod scale; // scale.rt: times a power of two, rounded once
 pub mod split; // split.rt: a value as a significand from 1 to below 2 and an exponent
+pub mod exports;
