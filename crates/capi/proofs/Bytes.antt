@@ -8,7 +8,6 @@ use lib.ListN.{length, set, drop}
 use lib.Seq.{sets, sets-eq, drop-length}
 use Rattle.definitions.specs.Block.{bytesOf, blockOf}
 use Rattle.definitions.specs.Reports.{Report}
-use Rattle.capi.specs.Interface.{pattern}
 
 -- storing vs from 0 on into a list as long as vs leaves vs
 all-stored : (vs l : List ℕ) → length l ≡ length vs → sets l 0 vs ≡ vs
@@ -65,7 +64,7 @@ as-bytes s w n q t hs hw ht =
     simp (div-div-eq-div-mul, mod-eq-of-lt a, mod-eq-of-lt b, mod-eq-of-lt c)
 
 pub block-stored : (l : List ℕ) → length l ≡ 16 → (significand word number quotient steps : ℕ) → significand < 2 ^ 64 → word < 2 ^ 16 → steps < 2 ^ 32
-    → sets l 0 (stores significand word number quotient steps) ≡ blockOf (record { number = number; value = pattern significand word; quotient = quotient; steps = steps })
+    → sets l 0 (stores significand word number quotient steps) ≡ blockOf (record { number = number; value = word * 2 ^ 64 + significand; quotient = quotient; steps = steps })
 unfolding blockOf
 block-stored l e s w n q t hs hw ht =
     all-stored (stores s w n q t) l e

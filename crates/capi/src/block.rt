@@ -1,16 +1,19 @@
 // The answer block of the step and the run.
+use definitions::Extended;
 ghost use mathlib.Core.Path.{_≡_};
 ghost use lib.ListN.{length};
 ghost use Rattle.definitions.specs.Block.{blockOf};
-ghost use Rattle.capi.specs.Interface.{pattern};
+ghost use Rattle.definitions.specs.Answers.{joined};
 
 pub const BLOCK_LENGTH: usize = 16;
 
-// Bytes in a row, little-endian: a pattern's significand and word, the number, the quotient bits and the steps.
-pub fn fill(block: &mut [u8], significand: u64, word: u16, number: u8, quotient: u8, steps: u32)
+// Bytes in a row, little-endian: the value's significand and word, the number, the quotient bits and the steps.
+pub fn fill(block: &mut [u8], value: Extended, number: u8, quotient: u8, steps: u32)
     requires { ⌜ length (now block) ≡ 16 ⌝ }
-    ensures { λ _. ⌜ now (block .exit) ≡ blockOf (record { number = number; value = pattern significand word; quotient = quotient; steps = steps }) ⌝ }
+    ensures { λ _. ⌜ now (block .exit) ≡ blockOf (record { number = number; value = joined value; quotient = quotient; steps = steps }) ⌝ }
 {
+    let significand = value.significand;
+    let word = value.word;
     block[0] = (significand % 256) as u8;
     block[1] = ((significand >> 8) % 256) as u8;
     block[2] = ((significand >> 16) % 256) as u8;

@@ -39,11 +39,11 @@ pub extern "C" fn zk_step80(
     };
     match step80(dividend, divisor, size, kind_of(kind)) {
         StepAnswer::Finished { value, quotient } => {
-            fill(block, value.significand, value.word, 0, quotient as u8, 1);
+            fill(block, value, 0, quotient as u8, 1);
             0
         }
         StepAnswer::Partial { value, quotient } => {
-            fill(block, value.significand, value.word, 1, quotient as u8, 1);
+            fill(block, value, 1, quotient as u8, 1);
             1
         }
         StepAnswer::Refused(why) => refusal_number(why),
@@ -81,14 +81,7 @@ pub extern "C" fn zk_run80(
             quotient,
             steps,
         } => {
-            fill(
-                block,
-                value.significand,
-                value.word,
-                0,
-                quotient as u8,
-                steps,
-            );
+            fill(block, value, 0, quotient as u8, steps);
             0
         }
         RunAnswer::Spent {
@@ -96,14 +89,7 @@ pub extern "C" fn zk_run80(
             quotient,
             steps,
         } => {
-            fill(
-                block,
-                value.significand,
-                value.word,
-                7,
-                quotient as u8,
-                steps,
-            );
+            fill(block, value, 7, quotient as u8, steps);
             7
         }
         RunAnswer::Refused(why) => refusal_number(why),

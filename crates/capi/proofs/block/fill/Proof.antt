@@ -104,7 +104,7 @@ same-length c = simp length-set
 returns : tie.Need-returns
 returns c =
     let a = c .args in
-    block-stored (a .block .now) (c .pre) (a .significand) (a .word) (a .number) (a .quotient) (a .steps) (omega arith) (omega arith) (omega arith)
+    block-stored (a .block .now) (c .pre) (a .value .significand) (a .value .word) (a .number) (a .quotient) (a .steps) (omega arith) (omega arith) (omega arith)
 
 pub fill-spec : {M : Type 1} → statement M
 fill-spec =
