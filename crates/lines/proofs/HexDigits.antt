@@ -1,13 +1,13 @@
 -- Laws of hex digits, read and written. Assumes nothing.
-use mathlib.Core.Path.{_≡_, refl, sym, ap, _∙_, subst}
+use mathlib.Core.Path.{_≡_, refl, sym, ap, _∙_}
 use mathlib.Core.Bool.{Bool, true, false, cond, true≢false, _&&_, _||_}
-use mathlib.Core.List.{List, [], _∷_, _++_, append-assoc}
+use mathlib.Core.List.{List, _++_, append-assoc}
 use Prim.Native.Nat.{ℕ, zero, suc, _+_, _-_, _*_, _/_, _%_, _^_, _≤_, _<_}
 use native.Mathlib.Nat.{pow-suc, pow-le-pow-right, le-trans, div-div-eq-div-mul}
 use native.Mathlib.Omega.{arith}
 use borrow.Author.Tests.{leb-true, le-leb, lt-leb}
-use lib.Dec.{leb, lit≤, lit<}
-use lib.ListN.{length, getD, set, take, drop, length-take}
+use lib.Dec.{leb, lit<}
+use lib.ListN.{length, getD, set, take, drop}
 use lib.Seq.{take-suc, set-at, length-take-le, drop-cons}
 use Rattle.definitions.specs.Line.{isHex, digitOf, allHex, hexValue, upperHex, hexDigits}
 use Rattle.digits.proofs.Tests.{clash, and-both}

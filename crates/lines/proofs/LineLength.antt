@@ -1,12 +1,12 @@
 -- How long a line of output is, and how it stands in an `Output`. Assumes nothing.
-use mathlib.Core.Path.{_≡_, refl, sym, ap, _∙_}
+use mathlib.Core.Path.{_≡_, refl, sym, subst}
 use mathlib.Core.Bool.{Bool, true, false, cond, _&&_}
 use mathlib.Core.Logic.{_⊎_, inl, inr, ⊎-elim}
-use mathlib.Core.List.{List, _++_}
+use mathlib.Core.List.{List}
 use Prim.Native.Nat.{ℕ, _+_, _-_, _*_, _≤_}
 use native.Mathlib.Omega.{arith}
 use borrow.Author.Tests.{eqb-true}
-use lib.Dec.{eqb, lit≤}
+use lib.Dec.{eqb}
 use lib.ListN.{length, getD, take, drop, replicate, length-append, length-replicate}
 use lib.Seq.{take-at}
 use Rattle.digits.proofs.Tests.{and-both}
@@ -15,6 +15,7 @@ use Rattle.definitions.specs.Format.{binary64}
 use Rattle.definitions.specs.Remainder.{Remainder, remainder}
 use Rattle.definitions.specs.Line.{allHex, hexValue, wellFormed, answerLine, badLine, lineFor}
 use Rattle.lines.specs.Output.{outputOf}
+use Rattle.lines.specs.declared.output.Output.{Output}
 use Rattle.lines.specs.Stream.{answered}
 
 answer-length : (r : Remainder) → length (answerLine r) ≡ 20
@@ -40,18 +41,29 @@ either-length l = go (wellFormed l) (well-formed-length l)
     go true w = inl (answer-length r, w refl)
     go false w = inr refl
 
-pub line-length : (l : List ℕ) → length (lineFor l) ≤ 20
+line-length : (l : List ℕ) → length (lineFor l) ≤ 20
 line-length l = ⊎-elim (λ e. omega arith) (λ e. omega arith) (either-length l)
 
 -- no line of output is longer than nine times its line of input
 pub answered-length : (l : List ℕ) → length (answered l) ≤ 9 * (length l + 1)
 answered-length l = rw (length-append (lineFor l)) (⊎-elim (λ e. omega arith) (λ e. omega arith) (either-length l))
 
--- the parts of an `Output`
-pub output-bytes : (l : List ℕ) → length l ≤ 20 → length (outputOf l .bytes) ≡ 20
-unfolding outputOf
-output-bytes l h = rw (length-append l, length-replicate) (omega arith)
+-- the parts of an `Output` that holds the line of an answer
+pub record Shows (o : Output) (l : List ℕ) : Type 0 where
+  pub bytes : length (o .bytes) ≡ 20
+  pub len : o .len ≡ length l
+  pub short : length l ≤ 20
+  pub line : take (o .len) (o .bytes) ≡ l
 
-pub output-line : (l : List ℕ) → take (outputOf l .len) (outputOf l .bytes) ≡ l
+shown : (l : List ℕ) → length l ≤ 20 → Shows (outputOf l) l
 unfolding outputOf
-output-line l = take-at l (replicate (20 - length l) 0) (length l) refl
+shown l h =
+    record {
+      bytes = rw (length-append l, length-replicate) (omega arith);
+      len = refl;
+      short = h;
+      line = take-at l (replicate (20 - length l) 0) (length l) refl;
+    }
+
+pub shows : (l : List ℕ) (o : Output) → o ≡ outputOf (lineFor l) → Shows o (lineFor l)
+shows l o e = subst (λ (p : Output). Shows p (lineFor l)) (sym e) (shown (lineFor l) (line-length l))

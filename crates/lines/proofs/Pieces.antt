@@ -1,9 +1,9 @@
 -- It does not matter where the reads cut an input. Assumes nothing.
-use mathlib.Core.Path.{_≡_, refl, sym, ap, _∙_, subst}
+use mathlib.Core.Path.{_≡_, refl, sym, ap, _∙_}
 use mathlib.Core.Bool.{Bool, true, false, cond, not}
 use mathlib.Core.Logic.{_⊎_, inl, inr, ⊎-elim}
 use mathlib.Core.List.{List, [], _∷_, _++_, append-nil, append-assoc, flatten}
-use Prim.Native.Nat.{ℕ, suc, _+_, _≤_, _<_, min}
+use Prim.Native.Nat.{ℕ, _≤_, _<_, min}
 use native.Mathlib.Omega.{arith}
 use lib.Dec.{T, leb, leb→le, nleb→lt, eqb}
 use lib.ListN.{length, take, drop, length-append, length-take, take-append-drop}
@@ -14,7 +14,7 @@ use Rattle.lines.specs.Stream.{newline, answered, writtenAt, begunAt, wr
 use Rattle.lines.proofs.Appended.{written-append, begun-append}
 use Rattle.lines.proofs.Parts.{take-min}
 use Rattle.lines.proofs.WellFormed.{bad-length}
-use Rattle.lines.proofs.Last.{last-none, last-some}
+use Rattle.lines.proofs.Last.{last-some}
 
 -- Two lines that agree as far as a line is kept are the same line, or both too long.
 module _ (a b : List ℕ) (e : take keptBytes a ≡ take keptBytes b) where

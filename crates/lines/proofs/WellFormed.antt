@@ -1,11 +1,10 @@
 -- Which lines are answered, by what the code finds on them. Assumes nothing.
-use mathlib.Core.Path.{_≡_, refl, sym, ap, _∙_}
+use mathlib.Core.Path.{_≡_, refl}
 use mathlib.Core.Bool.{Bool, true, false, cond, _&&_}
 use mathlib.Core.List.{List}
 use Prim.Native.Nat.{ℕ}
 use native.Mathlib.Omega.{arith}
 use borrow.Author.Tests.{eq-eqb, ne-eqb}
-use lib.Dec.{eqb}
 use lib.ListN.{length, getD, take, drop, length-take, length-drop}
 use Rattle.digits.proofs.Tests.{clash}
 use Rattle.definitions.specs.declared.Kind.the-variants.{Truncated}
@@ -13,7 +12,6 @@ use Rattle.definitions.specs.Format.{binary64}
 use Rattle.definitions.specs.Remainder.{remainder}
 use Rattle.definitions.specs.Line.{allHex, hexValue, wellFormed, answerLine, badLine, lineFor}
 use Rattle.lines.specs.Field.{fieldOf}
-use Rattle.lines.specs.declared.hex.Field.{Field}
 use Rattle.lines.specs.declared.hex.Field.the-variants.{Number, Bad}
 
 and-false : (a : Bool) → a && false ≡ false

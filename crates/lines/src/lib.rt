@@ -1,12 +1,12 @@
 // One line of input answered by one line of output: document 01, "The line program".
-pub mod hex;
-pub mod output;
+mod hex;
+mod output;
 pub mod stream;
 
 use definitions::Kind;
 use hex::Field;
 use hex::read_field;
-use output::Output;
+pub use output::Output;
 use output::bad_line;
 use output::line_of_answer;
 use remainder::patterns::remainder64;

@@ -10,6 +10,9 @@ ghost use Rattle.definitions.specs.Answers.{refusalNumber, remainderTold};
 ghost use Rattle.definitions.specs.Line.{hexDigits, answerLine, badLine};
 ghost use Rattle.lines.specs.Output.{outputOf};
 
+// What a refusal returns as its value.
+const HOUSE_NAN: u64 = 0x7FF8_0000_0000_0000;
+
 // A line of output without its newline: the first `len` bytes, then zeros.
 pub struct Output {
     pub bytes: [u8; 20],
@@ -20,28 +23,7 @@ pub fn bad_line() -> Output
     ensures { λ r. ⌜ r ≡ outputOf badLine ⌝ }
 {
     Output {
-        bytes: [
-            b'b',
-            b'a',
-            b'd',
-            b' ',
-            b'l',
-            b'i',
-            b'n',
-            b'e',
-            0,
-            0,
-            0,
-            0,
-            0,
-            0,
-            0,
-            0,
-            0,
-            0,
-            0,
-            0,
-        ],
+        bytes: *b"bad line\0\0\0\0\0\0\0\0\0\0\0\0",
         len: 8,
     }
 }
@@ -77,7 +59,7 @@ fn digits_line(value: u64, quotient_digit: u8, number_digit: u8) -> Output
     Output { bytes, len: 20 }
 }
 
-// The line of an answer. Quotient bits are below 8, and a digit is all that they have room for.
+// The line of an answer. Only `answer_line` calls it, with an answer of `remainder64`, whose quotient bits are below 8: one digit.
 pub fn line_of_answer(answer: RemainderAnswer) -> Output
     requires { ⌜ remainderTold binary64 answer .quotient ≤ 9 ⌝ }
     ensures { λ r. ⌜ r ≡ outputOf (answerLine (remainderTold binary64 answer)) ⌝ }
@@ -86,8 +68,6 @@ pub fn line_of_answer(answer: RemainderAnswer) -> Output
         RemainderAnswer::Finished { value, quotient } => {
             digits_line(value, b'0' + (quotient as u8), b'0')
         }
-        RemainderAnswer::Refused(why) => {
-            digits_line(0x7FF8_0000_0000_0000, b'0', b'0' + number_of(why))
-        }
+        RemainderAnswer::Refused(why) => { digits_line(HOUSE_NAN, b'0', b'0' + number_of(why)) }
     }
 }

@@ -1,20 +1,19 @@
-// A whole input answered piece by piece: a read may cut a line anywhere. Only the program over this crate calls these functions, with buffers of its own
-// that are long enough; what a buffer holds past the part that is stated is free.
+// A whole input answered piece by piece: a read may cut a line anywhere. Only the program over this crate calls these functions, with
+// buffers of its own that are long enough; what a buffer holds past the part that is stated is free.
 use crate::answer_line;
-use crate::output::Output;
 ghost use mathlib.Core.Path.{_≡_};
-ghost use mathlib.Core.List.{[], _∷_, _++_};
 ghost use Prim.Native.Nat.{_+_, _-_, _*_, _≤_, min};
 ghost use lib.ListN.{length, take, drop};
 ghost use Rattle.lines.specs.Stream.{lastWritten, keptBytes, Holds, Put, Passed, Turned};
 
-// A line of output and its newline, put into `out` at a place.
-fn put_line(out: &mut [u8], at: usize, line: Output) -> usize
-    requires { ⌜ (at + 21 ≤ length (now out)) × (line .len ≤ 20) × (length (line .bytes) ≡ 20) ⌝ }
-    ensures { λ r. ⌜ (r ≡ at + line .len + 1) × (take r (now (out .exit)) ≡ take at (now (out .entry)) ++ (take (line .len) (line .bytes) ++ (10 ∷ []))) ⌝ }
+// A line of input answered at a place of `out`, with a newline, and the place after that.
+fn answer_at(out: &mut [u8], at: usize, line: &[u8]) -> usize
+    requires { ⌜ at + 21 ≤ length (now out) ⌝ }
+    ensures { λ r. ⌜ Put (now (line .entry)) (now (out .entry)) (now (out .exit)) at r ⌝ }
 {
-    let bytes = line.bytes;
-    let len = line.len;
+    let answer = answer_line(line);
+    let bytes = answer.bytes;
+    let len = answer.len;
     let mut k: usize = 0;
     while k < 20 {
         out[at + k] = bytes[k];
@@ -22,14 +21,6 @@ fn put_line(out: &mut [u8], at: usize, line: Output) -> usize
     }
     out[at + len] = b'\n';
     at + len + 1
-}
-
-// A line of input answered at a place of `out`, and the place after it.
-fn answer_at(out: &mut [u8], at: usize, line: &[u8]) -> usize
-    requires { ⌜ at + 21 ≤ length (now out) ⌝ }
-    ensures { λ r. ⌜ Put (now (line .entry)) (now (out .entry)) (now (out .exit)) at r ⌝ }
-{
-    put_line(out, at, answer_line(line))
 }
 
 // Where the last line of an input begins, and how many bytes were put into `out`.

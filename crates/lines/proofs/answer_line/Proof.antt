@@ -1,9 +1,8 @@
 -- `answer_line` meets its contract: what each test says of the line. Assumes nothing.
-use mathlib.Core.Path.{_≡_, refl, sym, ap, _∙_}
+use mathlib.Core.Path.{sym, ap, _∙_}
 use native.Mathlib.Omega.{arith}
 use Rattle.definitions.specs.declared.Kind.the-variants.{Truncated}
 use Rattle.definitions.specs.Format.{binary64}
-use Rattle.definitions.specs.Remainder.{Remainder}
 use Rattle.definitions.specs.Line.{answerLine}
 use Rattle.lines.specs.Field.{fieldOf}
 use Rattle.lines.specs.Output.{outputOf}
@@ -13,102 +12,74 @@ use Rattle.lines.proofs.WellFormed.{bad-length, bad-space, first-length
 use borrow.Author.Needs.{needs}
 use Rattle.lines.proofs.answer_line.Statement.{statement}
 use Rattle.lines.proofs.answer_line.Tie as tie
-use Rattle.lines.proofs.answer_line.Reads as reads
-use Rattle.lines.proofs.answer_line.Lts as lts
-use Rattle.lines.proofs.hex.read_field.Reads as read-field-reads
-use Rattle.lines.proofs.output.bad_line.Reads as bad-line-reads
-use Rattle.lines.proofs.output.line_of_answer.Reads as line-of-answer-reads
-use Rattle.remainder.proofs.patterns.remainder64.Reads as remainder64-reads
 
--- src/lib.rt:17:9
 bad-line-requires : tie.Need-bad-line-requires
 bad-line-requires c κs = search needs
 
--- src/lib.rt:17:9
 returns : tie.Need-returns
 returns c = c .bad-line .ensures ∙ ap outputOf (sym (bad-length (c .before .before .before .args .line .now) (c .before .if1 .taken)))
 
--- src/lib.rt:19:8
 shared-slice-read-if2 : tie.Need-shared-slice-read-if2
 shared-slice-read-if2 c = search needs
 
--- src/lib.rt:20:9
 bad-line-requires-2 : tie.Need-bad-line-requires-2
 bad-line-requires-2 c κs = search needs
 
--- src/lib.rt:20:9
 returns-2 : tie.Need-returns-2
 returns-2 c = c .bad-line2 .ensures ∙ ap outputOf (sym (bad-space (c .before .before .before .before .before .args .line .now) (c .before .if2 .taken)))
 
--- src/lib.rt:22:39
 slice-aggregate-read-field : tie.Need-slice-aggregate-read-field
 slice-aggregate-read-field c = sym (first-length (c .before .before .before .before .before .args .line .now) (c .before .before .before .if1 .left))
 
--- src/lib.rt:22:28
 read-field-requires : tie.Need-read-field-requires
 read-field-requires c κs = search needs
 
--- src/lib.rt:22:23
 enum-known-x : tie.Need-enum-known-x
 enum-known-x c = search needs
 
--- src/lib.rt:23:9
 enum-told : tie.Need-enum-told
 enum-told c = search needs
 
--- src/lib.rt:23:9
 bad-line-requires-3 : tie.Need-bad-line-requires-3
 bad-line-requires-3 c κs = search needs
 
--- src/lib.rt:23:9
 returns-3 : tie.Need-returns-3
 returns-3 c =
     let s = c .before .before .before .before .before .before .before .before .before in
     c .bad-line3 .ensures ∙ ap outputOf (sym (bad-first (s .args .line .now) (omega arith) (sym (c .before .before .before .read-field .ensures) ∙ c .before .enum-told .given .1)))
 
--- src/lib.rt:25:39
 sub-read-field : tie.Need-sub-read-field
 sub-read-field c = search needs
 
--- src/lib.rt:25:39
 part-read-field-start : tie.Need-part-read-field-start
 part-read-field-start c = search needs
 
--- src/lib.rt:25:39
 part-read-field-end : tie.Need-part-read-field-end
 part-read-field-end c = search needs
 
--- src/lib.rt:25:28
 read-field-requires-2 : tie.Need-read-field-requires-2
 read-field-requires-2 c κs = search needs
 
--- src/lib.rt:25:23
 enum-known-y : tie.Need-enum-known-y
 enum-known-y c = search needs
 
--- src/lib.rt:26:9
 enum-told-2 : tie.Need-enum-told-2
 enum-told-2 c = search needs
 
--- src/lib.rt:26:9
 bad-line-requires-4 : tie.Need-bad-line-requires-4
 bad-line-requires-4 c κs = search needs
 
--- src/lib.rt:26:9
 returns-4 : tie.Need-returns-4
 returns-4 c =
     let s = c .before .before .before .before .before .before .before .before .before .before .before .before .before .before in
     c .bad-line4 .ensures ∙ ap outputOf (sym (bad-second (s .args .line .now) (c .before .before .before .before .before .before .before .before .before .before .before .before .if1 .left) (ap fieldOf (sym (rest-whole 17 (s .args .line .now))) ∙ sym (c .before .before .before .read-field2 .ensures) ∙ c .before .enum-told2 .given .1)))
 
--- src/lib.rt:28:20
 remainder64-requires : tie.Need-remainder64-requires
 remainder64-requires c κs = search needs
 
--- src/lib.rt:28:5
 line-of-answer-requires : tie.Need-line-of-answer-requires
 line-of-answer-requires c κs = rw (c .remainder64 .ensures) (quotient-digit binary64 Truncated _ _)
 
--- src/lib.rt:13:1
 returns-5 : tie.Need-returns-5
 returns-5 c =
     let s = c .before .before .before .before .before .before .before .before .before .before .before .before .before .before .before .before in

@@ -2,14 +2,10 @@
 use borrow.Author.Tests.{le-leb, lt-leb}
 use Rattle.lines.proofs.hex.between.Statement.{statement}
 use Rattle.lines.proofs.hex.between.Tie as tie
-use Rattle.lines.proofs.hex.between.Reads as reads
-use Rattle.lines.proofs.hex.between.Lts as lts
 
--- src/hex.rt:15:1
 returns : tie.Need-returns
 returns c = simp (le-leb _ _ (c .if1 .taken))
 
--- src/hex.rt:15:1
 returns-2 : tie.Need-returns-2
 returns-2 c = simp (lt-leb _ _ (c .if1 .left))
 

@@ -5,30 +5,22 @@ use Rattle.lines.proofs.HexDigits.{digit-value}
 use borrow.Author.Needs.{needs}
 use Rattle.lines.proofs.hex.digit_in.Statement.{statement}
 use Rattle.lines.proofs.hex.digit_in.Tie as tie
-use Rattle.lines.proofs.hex.digit_in.Reads as reads
-use Rattle.lines.proofs.hex.digit_in.Lts as lts
-use Rattle.lines.proofs.hex.is_hex.Reads as is-hex-reads
 
--- src/hex.rt:23:8
 is-hex-requires : tie.Need-is-hex-requires
 is-hex-requires c κs = search needs
 
--- src/hex.rt:24:18
 mul-result : tie.Need-mul-result
 mul-result c = search needs
 
--- src/hex.rt:24:9
 add-result : tie.Need-add-result
 add-result c = search needs
 
--- src/hex.rt:20:1
 returns : tie.Need-returns
 unfolding digitIn
 returns c =
     let h = sym (c .before .is-hex .ensures) ∙ c .if1 .taken in
     simp h (digit-value (c .before .before .args .c) h .0)
 
--- src/hex.rt:20:1
 returns-2 : tie.Need-returns-2
 unfolding digitIn
 returns-2 c = simp (sym (c .before .is-hex .ensures) ∙ c .if1 .left)

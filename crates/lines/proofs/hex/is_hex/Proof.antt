@@ -3,34 +3,25 @@ use mathlib.Core.Path.{sym, _∙_}
 use borrow.Author.Needs.{needs}
 use Rattle.lines.proofs.hex.is_hex.Statement.{statement}
 use Rattle.lines.proofs.hex.is_hex.Tie as tie
-use Rattle.lines.proofs.hex.is_hex.Reads as reads
-use Rattle.lines.proofs.hex.is_hex.Lts as lts
-use Rattle.lines.proofs.hex.between.Reads as between-reads
 
--- src/hex.rt:24:8
 between-requires : tie.Need-between-requires
 between-requires c κs = search needs
 
--- src/hex.rt:25:9
 returns : tie.Need-returns
 returns c = simp (sym (c .before .between .ensures) ∙ c .if1 .taken)
 
--- src/hex.rt:27:5
 between-requires-2 : tie.Need-between-requires-2
 between-requires-2 c κs = search needs
 
--- src/hex.rt:27:31
 between-requires-3 : tie.Need-between-requires-3
 between-requires-3 c κs = search needs
 
--- src/hex.rt:21:1
 returns-2 : tie.Need-returns-2
 returns-2 c =
     simp
     (sym (c .before .before .before .between .ensures) ∙ c .before .before .if1 .left, sym (c .before .between2 .ensures) ∙ c .if2 .taken)
     (c .if2 .taken)
 
--- src/hex.rt:21:1
 returns-3 : tie.Need-returns-3
 returns-3 c =
     simp (

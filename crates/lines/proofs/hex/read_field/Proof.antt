@@ -2,20 +2,16 @@
 use mathlib.Core.Path.{_≡_, refl, sym, ap, _∙_}
 use mathlib.Core.Bool.{true}
 use mathlib.Core.List.{[]}
-use Prim.Native.Nat.{ℕ, suc, _+_, _-_, _*_, _^_, _≤_, _<_}
+use Prim.Native.Nat.{suc, _+_, _-_, _*_, _^_, _≤_, _<_}
 use native.Mathlib.Numerals.{add-one}
 use native.Mathlib.Omega.{arith}
-use borrow.Author.Needs.{needs}
 use borrow.Author.Tests.{eq-eqb, ne-eqb}
 use lib.ListN.{length, getD, drop, drop-of-length-le}
 use Rattle.definitions.specs.Line.{isHex, digitOf, allHex, hexValue}
-use Rattle.lines.specs.Field.{digitIn, fieldOf}
+use Rattle.lines.specs.Field.{fieldOf}
 use Rattle.lines.proofs.HexDigits.{is-digit, no-digit, read-more, all-more, all-not, value-more, value-fits}
 use Rattle.lines.proofs.hex.read_field.Statement.{statement}
 use Rattle.lines.proofs.hex.read_field.Tie as tie
-use Rattle.lines.proofs.hex.read_field.Reads as reads
-use Rattle.lines.proofs.hex.read_field.Lts as lts
-use Rattle.lines.proofs.hex.digit_in.Reads as digit-in-reads
 
 abbrev Inv-loop : tie.InvT-loop
 Inv-loop digits n₀ i₀ n i =
@@ -37,24 +33,19 @@ grown c =
     let l = c .before .before .before .before .loop in
     value-fits _ (suc (l .i)) (omega arith) (value-more (l .n) (c .before .digit-in .result) (l .i) (l .inv .1) (omega arith))
 
--- src/hex.rt:45:9
 returns : tie.Need-returns Inv-loop μ-loop
 unfolding fieldOf
 returns c = simp (ne-eqb _ _ (c .if1 .taken))
 
--- src/hex.rt:49:5
 loop-holds : tie.Need-loop-holds Inv-loop μ-loop
 loop-holds c = (omega arith, omega arith, refl, refl)
 
--- src/hex.rt:50:26
 shared-slice-read-digit-in : tie.Need-shared-slice-read-digit-in Inv-loop μ-loop
 shared-slice-read-digit-in c = omega arith
 
--- src/hex.rt:50:13
 digit-in-requires : tie.Need-digit-in-requires Inv-loop μ-loop
 digit-in-requires c κs = tt
 
--- src/hex.rt:52:13
 returns-2 : tie.Need-returns-2 Inv-loop μ-loop
 unfolding fieldOf
 returns-2 c =
@@ -65,29 +56,23 @@ returns-2 c =
     let none = all-not xs (l .i) h (no-digit (getD xs (l .i) 0) (rw (c .before .digit-in .ensures) at (c .if2 .taken))) in
     simp (sym (l .inv .3) ∙ none, eq-eqb _ _ (c .before .before .before .before .before .if1 .left))
 
--- src/hex.rt:54:13
 mul-n : tie.Need-mul-n Inv-loop μ-loop
 mul-n c =
     let l = c .before .before .before .before .loop in
     omega (arith, grown c)
 
--- src/hex.rt:54:23
 cast-n : tie.Need-cast-n Inv-loop μ-loop
 cast-n c = omega arith
 
--- src/hex.rt:54:13
 add-n : tie.Need-add-n Inv-loop μ-loop
 add-n c = record { fits = grown c }
 
--- src/hex.rt:55:9
 add-i : tie.Need-add-i Inv-loop μ-loop
 add-i c = omega arith
 
--- src/hex.rt:49:5
 loop-less : tie.Need-loop-less Inv-loop μ-loop
 loop-less c = omega arith
 
--- src/hex.rt:49:5
 loop-again : tie.Need-loop-again Inv-loop μ-loop
 loop-again c =
     let l = c .before .before .before .before .loop in
@@ -100,7 +85,6 @@ loop-again c =
       rw add-one (sym (all-more xs (l .i) h (d .0)) ∙ l .inv .3),
     )
 
--- src/hex.rt:41:1
 returns-3 : tie.Need-returns-3 Inv-loop μ-loop
 unfolding fieldOf
 returns-3 c =

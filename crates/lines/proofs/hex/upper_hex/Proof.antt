@@ -3,26 +3,19 @@ use borrow.Author.Needs.{needs}
 use borrow.Author.Tests.{lt-ltb, le-ltb}
 use Rattle.lines.proofs.hex.upper_hex.Statement.{statement}
 use Rattle.lines.proofs.hex.upper_hex.Tie as tie
-use Rattle.lines.proofs.hex.upper_hex.Reads as reads
-use Rattle.lines.proofs.hex.upper_hex.Lts as lts
 
--- src/hex.rt:64:13
 cast-d : tie.Need-cast-d
 cast-d c = search needs
 
--- src/hex.rt:66:9
 add-result : tie.Need-add-result
 add-result c = search needs
 
--- src/hex.rt:68:9
 add-result-2 : tie.Need-add-result-2
 add-result-2 c = search needs
 
--- src/hex.rt:61:1
 returns : tie.Need-returns
 returns c = simp (lt-ltb _ _ (c .if1 .taken))
 
--- src/hex.rt:61:1
 returns-2 : tie.Need-returns-2
 returns-2 c = simp (le-ltb _ _ (c .if1 .left))
 

@@ -3,10 +3,7 @@ use mathlib.Core.Path.{refl}
 use Rattle.lines.specs.Output.{outputOf}
 use Rattle.lines.proofs.output.bad_line.Statement.{statement}
 use Rattle.lines.proofs.output.bad_line.Tie as tie
-use Rattle.lines.proofs.output.bad_line.Reads as reads
-use Rattle.lines.proofs.output.bad_line.Lts as lts
 
--- src/output.rt:17:1
 returns : tie.Need-returns
 unfolding outputOf
 returns c = refl

@@ -1,6 +1,6 @@
 -- `digits_line` meets its contract. The invariant: the digits from place k on stand, with spaces before them. Assumes nothing.
 use mathlib.Core.Path.{_≡_, refl, sym, ap, subst}
-use mathlib.Core.List.{List, [], _∷_, _++_}
+use mathlib.Core.List.{List, [], _∷_}
 use Prim.Native.Nat.{ℕ, _-_, _/_, _^_, _≤_}
 use native.Mathlib.Nat.{div-one}
 use native.Mathlib.Omega.{arith}
@@ -9,9 +9,6 @@ use Rattle.lines.specs.Output.{outputOf}
 use Rattle.lines.proofs.HexDigits.{halfway, put-more, left-more}
 use Rattle.lines.proofs.output.digits_line.Statement.{statement}
 use Rattle.lines.proofs.output.digits_line.Tie as tie
-use Rattle.lines.proofs.output.digits_line.Reads as reads
-use Rattle.lines.proofs.output.digits_line.Lts as lts
-use Rattle.lines.proofs.hex.upper_hex.Reads as upper-hex-reads
 
 abbrev Inv-loop : tie.InvT-loop
 Inv-loop value quotient-digit number-digit bytes₀ left₀ k₀ bytes left k =
@@ -21,35 +18,27 @@ Inv-loop value quotient-digit number-digit bytes₀ left₀ k₀ bytes left k =
 abbrev μ-loop : tie.MeasureT-loop
 μ-loop value quotient-digit number-digit bytes₀ left₀ k₀ bytes left k = k
 
--- src/output.rt:48:5
 array-write-bytes : tie.Need-array-write-bytes Inv-loop μ-loop
 array-write-bytes c = omega arith
 
--- src/output.rt:49:5
 array-write-bytes-2 : tie.Need-array-write-bytes-2 Inv-loop μ-loop
 array-write-bytes-2 c = omega arith
 
--- src/output.rt:52:5
 loop-holds : tie.Need-loop-holds Inv-loop μ-loop
 loop-holds c = (omega arith, sym (div-one _), refl)
 
--- src/output.rt:53:9
 sub-k : tie.Need-sub-k Inv-loop μ-loop
 sub-k c = omega arith
 
--- src/output.rt:54:20
 upper-hex-requires : tie.Need-upper-hex-requires Inv-loop μ-loop
 upper-hex-requires c κs = tt
 
--- src/output.rt:54:9
 array-write-bytes-3 : tie.Need-array-write-bytes-3 Inv-loop μ-loop
 array-write-bytes-3 c = omega arith
 
--- src/output.rt:52:5
 loop-less : tie.Need-loop-less Inv-loop μ-loop
 loop-less c = omega arith
 
--- src/output.rt:52:5
 loop-again : tie.Need-loop-again Inv-loop μ-loop
 loop-again c =
     let l = c .before .before .loop in
@@ -60,7 +49,6 @@ loop-again c =
           (put-more (replicate 16 32) (a .value) (32 ∷ a .quotient-digit ∷ 32 ∷ a .number-digit ∷ []) (l .k) refl (omega arith) (omega arith)),
     )
 
--- src/output.rt:44:1
 returns : tie.Need-returns Inv-loop μ-loop
 unfolding outputOf
 returns c =

@@ -1,21 +1,15 @@
 -- `line_of_answer` meets its contract, case by case. Assumes nothing.
-use mathlib.Core.Path.{_≡_, refl, sym, ap, _∙_, subst}
-use Prim.Native.Nat.{ℕ, _+_, _≤_, _<_}
+use mathlib.Core.Path.{sym, subst}
+use Prim.Native.Nat.{_≤_}
 use native.Mathlib.Omega.{arith}
 use borrow.Author.Needs.{needs}
 use Rattle.definitions.specs.Format.{binary64}
-use Rattle.definitions.specs.Remainder.{Remainder}
-use Rattle.definitions.specs.Answers.{remainderTold, refusalNumber}
+use Rattle.definitions.specs.Answers.{remainderTold}
 use Rattle.definitions.specs.Line.{answerLine}
 use Rattle.definitions.specs.declared.RemainderAnswer.{RemainderAnswer}
-use Rattle.lines.specs.Output.{outputOf}
 use Rattle.lines.proofs.OneDigit.{refusal-digit}
 use Rattle.lines.proofs.output.line_of_answer.Statement.{statement}
 use Rattle.lines.proofs.output.line_of_answer.Tie as tie
-use Rattle.lines.proofs.output.line_of_answer.Reads as reads
-use Rattle.lines.proofs.output.line_of_answer.Lts as lts
-use Rattle.lines.proofs.output.digits_line.Reads as digits-line-reads
-use Rattle.lines.proofs.output.number_of.Reads as number-of-reads
 
 enum-known-answer : tie.Need-enum-known-answer
 enum-known-answer c = search needs

@@ -1,15 +1,12 @@
 -- `answer_ended` meets its contract, byte by byte. Assumes nothing.
 use mathlib.Core.Path.{_≡_, refl}
 use mathlib.Core.Logic.{⊎-elim}
-use Prim.Native.Nat.{ℕ, _-_}
+use Prim.Native.Nat.{_-_}
 use native.Mathlib.Omega.{arith}
 use lib.ListN.{length}
 use Rattle.lines.proofs.Ended.{SoFar, none-yet, line-ended, line-longer, all-passed}
 use Rattle.lines.proofs.stream.answer_ended.Statement.{statement}
 use Rattle.lines.proofs.stream.answer_ended.Tie as tie
-use Rattle.lines.proofs.stream.answer_ended.Reads as reads
-use Rattle.lines.proofs.stream.answer_ended.Lts as lts
-use Rattle.lines.proofs.stream.answer_at.Reads as answer-at-reads
 
 abbrev Inv-loop : tie.InvT-loop
 Inv-loop input out₀ begin₀ at₀ i₀ out begin at i = SoFar input out begin at i × (length out ≡ length out₀)
@@ -17,43 +14,33 @@ Inv-loop input out₀ begin₀ at₀ i₀ out begin at i = SoFar input out begin
 abbrev μ-loop : tie.MeasureT-loop
 μ-loop input out₀ begin₀ at₀ i₀ out begin at i = length input - i
 
--- src/stream.rt:49:5
 loop-holds : tie.Need-loop-holds Inv-loop μ-loop
 loop-holds c = (none-yet _ _, refl)
 
--- src/stream.rt:50:12
 shared-slice-read-if1 : tie.Need-shared-slice-read-if1 Inv-loop μ-loop
 shared-slice-read-if1 c = omega arith
 
--- src/stream.rt:51:37
 sub-answer-at : tie.Need-sub-answer-at Inv-loop μ-loop
 sub-answer-at c = omega arith
 
--- src/stream.rt:51:37
 part-answer-at-start : tie.Need-part-answer-at-start Inv-loop μ-loop
 part-answer-at-start c = omega arith
 
--- src/stream.rt:51:37
 part-answer-at-end : tie.Need-part-answer-at-end Inv-loop μ-loop
 part-answer-at-end c = omega arith
 
--- src/stream.rt:51:13
 answer-at-requires : tie.Need-answer-at-requires Inv-loop μ-loop
 answer-at-requires c κs = omega arith
 
--- src/stream.rt:52:21
 add-begin : tie.Need-add-begin Inv-loop μ-loop
 add-begin c = omega arith
 
--- src/stream.rt:54:9
 add-i : tie.Need-add-i Inv-loop μ-loop
 add-i c = omega arith
 
--- src/stream.rt:49:5
 loop-less : tie.Need-loop-less Inv-loop μ-loop
 loop-less c = omega arith
 
--- src/stream.rt:49:5
 loop-again : tie.Need-loop-again Inv-loop μ-loop
 loop-again c =
     let l = c .before .before .before .loop in
@@ -68,11 +55,9 @@ loop-again c =
     (λ w. rw (w .1, w .2, w .3) (line-longer xs (l .i) (c .before .before .loop-test .taken) (l .out) (l .begin) (l .at) (w .0 .left) (l .inv .0), l .inv .1))
     (c .if1 .came)
 
--- src/stream.rt:42:1
 same-length : tie.Need-same-length Inv-loop μ-loop
 same-length c = omega arith
 
--- src/stream.rt:42:1
 returns : tie.Need-returns Inv-loop μ-loop
 returns c =
     let l = c .before .loop in

@@ -1,7 +1,5 @@
 -- `answer_last` meets its contract. Assumes nothing.
-use mathlib.Core.Path.{_≡_, refl, sym, ap, _∙_}
-use mathlib.Core.List.{List}
-use Prim.Native.Nat.{ℕ}
+use mathlib.Core.Path.{sym, ap, _∙_}
 use native.Mathlib.Omega.{arith}
 use lib.ListN.{length}
 use Rattle.lines.proofs.Holding.{holding}
@@ -9,25 +7,18 @@ use Rattle.lines.proofs.Last.{last-none, last-some}
 use borrow.Author.Needs.{needs}
 use Rattle.lines.proofs.stream.answer_last.Statement.{statement}
 use Rattle.lines.proofs.stream.answer_last.Tie as tie
-use Rattle.lines.proofs.stream.answer_last.Reads as reads
-use Rattle.lines.proofs.stream.answer_last.Lts as lts
-use Rattle.lines.proofs.stream.answer_at.Reads as answer-at-reads
 
--- src/stream.rt:101:9
 returns : tie.Need-returns
 returns c =
     let none = last-none (c .before .before .before .args .line .now) (c .if1 .taken) in
     holding _ _ 0 (sym none) (sym (ap length none))
 
--- src/stream.rt:103:5
 answer-at-requires : tie.Need-answer-at-requires
 answer-at-requires c κs = search needs
 
--- src/stream.rt:96:1
 same-length : tie.Need-same-length
 same-length c = search needs
 
--- src/stream.rt:96:1
 returns-2 : tie.Need-returns-2
 returns-2 c =
     let some = last-some (c .before .before .before .before .before .before .before .args .line .now) (c .before .before .before .before .if1 .left) in

@@ -1,5 +1,5 @@
 -- `answer_lines` meets its contract: the lines that ended are answered, and what is left is kept. Assumes nothing.
-use mathlib.Core.Path.{_≡_, refl, sym, ap, _∙_}
+use mathlib.Core.Path.{_≡_, sym, ap, _∙_}
 use mathlib.Core.List.{[]}
 use Prim.Native.Nat.{ℕ, _-_, min}
 use native.Mathlib.Omega.{arith}
@@ -11,43 +11,32 @@ use Rattle.lines.proofs.Parts.{drop-take, take-min}
 use borrow.Author.Needs.{needs}
 use Rattle.lines.proofs.stream.answer_lines.Statement.{statement}
 use Rattle.lines.proofs.stream.answer_lines.Tie as tie
-use Rattle.lines.proofs.stream.answer_lines.Reads as reads
-use Rattle.lines.proofs.stream.answer_lines.Lts as lts
-use Rattle.lines.proofs.stream.answer_ended.Reads as answer-ended-reads
-use Rattle.lines.proofs.stream.keep.Reads as keep-reads
 
--- src/stream.rt:87:29
 slice-reshare-prefix-answer-ended : tie.Need-slice-reshare-prefix-answer-ended
 slice-reshare-prefix-answer-ended c = search needs
 
--- src/stream.rt:87:29
 slice-aggregate-answer-ended : tie.Need-slice-aggregate-answer-ended
 slice-aggregate-answer-ended c =
     let s = c .before .before .before in
     sym (length-take-le (s .args .filled) (s .args .buffer .now) (s .pre .0))
 
--- src/stream.rt:87:9
 answer-ended-requires : tie.Need-answer-ended-requires
 answer-ended-requires c κs =
     let s = c .before .before .before .before in
     omega (arith, length-take-le (s .args .filled) (s .args .buffer .now) (s .pre .0))
 
--- src/stream.rt:88:9
 keep-requires : tie.Need-keep-requires
 keep-requires c κs =
     let s = c .before .before .before .before .before .before .before .before in
     let inside = c .before .before .before .answer-ended .ensures .inside in
     (omega (arith, length-take-le (s .args .filled) (s .args .buffer .now) (s .pre .0)), s .pre .0)
 
--- src/stream.rt:83:1
 same-length : tie.Need-same-length
 same-length c = search needs
 
--- src/stream.rt:83:1
 same-length-2 : tie.Need-same-length-2
 same-length-2 c = search needs
 
--- src/stream.rt:83:1
 returns : tie.Need-returns
 returns c =
     let s = c .before .before .before .before .before .before .before .before .before .before .before in

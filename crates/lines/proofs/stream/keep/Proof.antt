@@ -1,16 +1,13 @@
 -- `keep` meets its contract. The invariant: k bytes are moved, and the bytes from k on are as they were. Assumes nothing.
-use mathlib.Core.Path.{_≡_, refl, sym, ap, _∙_}
+use mathlib.Core.Path.{_≡_, refl}
 use mathlib.Core.Logic.{⊎-elim}
-use Prim.Native.Nat.{ℕ, _+_, _-_, _≤_, min}
-use native.Mathlib.Numerals.{add-one}
+use Prim.Native.Nat.{_-_, _≤_, min}
 use native.Mathlib.Omega.{arith}
 use lib.ListN.{length, take, drop, length-set}
 use Rattle.lines.specs.Stream.{keptBytes}
 use Rattle.lines.proofs.Parts.{moved}
 use Rattle.lines.proofs.stream.keep.Statement.{statement}
 use Rattle.lines.proofs.stream.keep.Tie as tie
-use Rattle.lines.proofs.stream.keep.Reads as reads
-use Rattle.lines.proofs.stream.keep.Lts as lts
 
 abbrev Inv-loop : tie.InvT-loop
 Inv-loop buffer₀ begin end most k₀ buffer k =
@@ -20,39 +17,30 @@ Inv-loop buffer₀ begin end most k₀ buffer k =
 abbrev μ-loop : tie.MeasureT-loop
 μ-loop buffer₀ begin end most k₀ buffer k = most - k
 
--- src/stream.rt:65:8
 sub-if1 : tie.Need-sub-if1 Inv-loop μ-loop
 sub-if1 c = omega arith
 
--- src/stream.rt:66:16
 sub-most : tie.Need-sub-most Inv-loop μ-loop
 sub-most c = omega arith
 
--- src/stream.rt:69:5
 loop-holds : tie.Need-loop-holds Inv-loop μ-loop
 loop-holds c = (omega arith, refl, refl, refl, ⊎-elim (λ w. omega arith) (λ w. omega arith) (c .if1 .came))
 
--- src/stream.rt:70:28
 add-buffer : tie.Need-add-buffer Inv-loop μ-loop
 add-buffer c = omega arith
 
--- src/stream.rt:70:21
 slice-read-buffer : tie.Need-slice-read-buffer Inv-loop μ-loop
 slice-read-buffer c = omega arith
 
--- src/stream.rt:70:9
 slice-write-buffer : tie.Need-slice-write-buffer Inv-loop μ-loop
 slice-write-buffer c = omega arith
 
--- src/stream.rt:71:9
 add-k : tie.Need-add-k Inv-loop μ-loop
 add-k c = omega arith
 
--- src/stream.rt:69:5
 loop-less : tie.Need-loop-less Inv-loop μ-loop
 loop-less c = omega arith
 
--- src/stream.rt:69:5
 loop-again : tie.Need-loop-again Inv-loop μ-loop
 loop-again c =
     let l = c .before .before .loop in
@@ -60,11 +48,9 @@ loop-again c =
     let more = moved (s .args .buffer .now) (l .buffer) (s .args .begin) (l .k) (omega arith) (l .inv .3) (l .inv .1) (l .inv .2) in
     (omega arith, more .0, more .1, simp length-set (l .inv .3), l .inv .4)
 
--- src/stream.rt:60:1
 same-length : tie.Need-same-length Inv-loop μ-loop
 same-length c = omega arith
 
--- src/stream.rt:60:1
 returns : tie.Need-returns Inv-loop μ-loop
 returns c =
     let l = c .before .loop in
