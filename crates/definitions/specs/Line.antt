@@ -1,4 +1,4 @@
--- What the line program writes for one line of its input, without the newlines. Definitions only.
+-- What the line program writes: for one line of its input, without the newlines, and for a whole input. Definitions only.
 use Prim.Native.Nat.{ℕ, zero, suc, _+_, _-_, _*_, _/_, _%_, _^_}
 use mathlib.Core.Bool.{Bool, true, false, cond, _&&_, _||_}
 use mathlib.Core.List.{List, [], _∷_, _++_}
@@ -49,3 +49,35 @@ badLine = 98 ∷ 97 ∷ 100 ∷ 32 ∷ 108 ∷ 105 ∷ 110 ∷ 101 ∷ []
 unfoldable pub lineFor : List ℕ → List ℕ
 unfolding wellFormed answerLine
 lineFor line = let a = answerLine (remainder binary64 Truncated (hexValue 0 (take 16 line)) (hexValue 0 (drop 17 line))) in cond (wellFormed line) a badLine
+
+-- ---- a whole input
+abbrev pub newline : ℕ
+newline = 10
+
+-- "Every output line ends with a newline."
+abbrev pub answered : List ℕ → List ℕ
+answered line = lineFor line ++ (newline ∷ [])
+
+-- one byte more after a line that has begun: what is written for it, and the line that has then begun
+abbrev pub writtenAt : List ℕ → ℕ → List ℕ
+writtenAt line c = cond (eqb c newline) (answered line) []
+
+abbrev pub begunAt : List ℕ → ℕ → List ℕ
+begunAt line c = cond (eqb c newline) [] (line ++ (c ∷ []))
+
+-- the same of many bytes
+abbrev pub written : List ℕ → List ℕ → List ℕ
+written line [] = []
+written line (c ∷ cs) = writtenAt line c ++ written (begunAt line c) cs
+
+abbrev pub begun : List ℕ → List ℕ → List ℕ
+begun line [] = line
+begun line (c ∷ cs) = begun (begunAt line c) cs
+
+-- "A last line needs no newline; empty input writes nothing."
+abbrev pub lastWritten : List ℕ → List ℕ
+lastWritten [] = []
+lastWritten (c ∷ cs) = answered (c ∷ cs)
+
+unfoldable pub outputFor : List ℕ → List ℕ
+outputFor input = written [] input ++ lastWritten (begun [] input)

@@ -2,7 +2,7 @@
 use mathlib.Core.Path.{_≡_, refl, sym, ap, _∙_}
 use mathlib.Core.List.{List, [], _∷_, _++_, append-assoc}
 use Prim.Native.Nat.{ℕ}
-use Rattle.lines.specs.Stream.{writtenAt, begunAt, written, begun}
+use Rattle.definitions.specs.Line.{writtenAt, begunAt, written, begun}
 
 pub written-append : (line a b : List ℕ) → written line (a ++ b) ≡ written line a ++ written (begun line a) b
 written-append line [] b = refl

@@ -7,7 +7,8 @@ use native.Mathlib.Omega.{arith}
 use borrow.Author.Tests.{eq-eqb, ne-eqb}
 use lib.ListN.{length, getD, take, drop, length-append, length-drop}
 use lib.Seq.{take-all, take-suc, length-take-le}
-use Rattle.lines.specs.Stream.{newline, answered, writtenAt, begunAt, written, begun, Put, Passed}
+use Rattle.definitions.specs.Line.{newline, answered, writtenAt, begunAt, written, begun}
+use Rattle.lines.specs.Stream.{Put, Passed}
 use Rattle.lines.specs.declared.stream.Pass.{Pass}
 use Rattle.lines.proofs.Appended.{written-append, begun-append}
 use Rattle.lines.proofs.Holding.{holding}

@@ -5,7 +5,7 @@ use Prim.Native.Nat.{ℕ}
 use native.Mathlib.Omega.{arith}
 use lib.ListN.{length}
 use Rattle.digits.proofs.Tests.{clash}
-use Rattle.lines.specs.Stream.{answered, lastWritten}
+use Rattle.definitions.specs.Line.{answered, lastWritten}
 
 pub last-none : (line : List ℕ) → length line ≡ 0 → lastWritten line ≡ []
 last-none [] e = refl

@@ -9,8 +9,8 @@ use lib.Dec.{T, leb, leb→le, nleb→lt, eqb}
 use lib.ListN.{length, take, drop, length-append, length-take, take-append-drop}
 use lib.Seq.{take-all, take-append-le}
 use Rattle.digits.proofs.Tests.{clash}
-use Rattle.definitions.specs.Line.{lineFor}
-use Rattle.lines.specs.Stream.{newline, answered, writtenAt, begunAt, written, begun, lastWritten, outputFor, keptBytes, inPieces, CutAnywhere}
+use Rattle.definitions.specs.Line.{lineFor, newline, answered, writtenAt, begunAt, written, begun, lastWritten, outputFor}
+use Rattle.lines.specs.Stream.{keptBytes, inPieces, CutAnywhere}
 use Rattle.lines.proofs.Appended.{written-append, begun-append}
 use Rattle.lines.proofs.Parts.{take-min}
 use Rattle.lines.proofs.WellFormed.{bad-length}

@@ -1,44 +1,11 @@
--- What the line program writes for a whole input, and how that comes about piece by piece. Definitions only.
+-- How the line program's output comes about piece by piece. Definitions only.
 use Prim.Native.Nat.{ℕ, _+_, _≤_}
 use mathlib.Core.Path.{_≡_}
-use mathlib.Core.Bool.{cond}
 use mathlib.Core.List.{List, [], _∷_, _++_, flatten}
-use lib.Dec.{eqb}
 use lib.ListN.{length, take, drop}
-use Rattle.definitions.specs.Line.{lineFor}
+use Rattle.definitions.specs.Line.{answered, written, begun, lastWritten, outputFor}
 use Rattle.lines.specs.declared.stream.Pass.{Pass}
 use Rattle.lines.specs.declared.stream.Turn.{Turn}
-
-abbrev pub newline : ℕ
-newline = 10
-
--- "Every output line ends with a newline."
-abbrev pub answered : List ℕ → List ℕ
-answered line = lineFor line ++ (newline ∷ [])
-
--- one byte more after a line that has begun: what is written for it, and the line that has then begun
-abbrev pub writtenAt : List ℕ → ℕ → List ℕ
-writtenAt line c = cond (eqb c newline) (answered line) []
-
-abbrev pub begunAt : List ℕ → ℕ → List ℕ
-begunAt line c = cond (eqb c newline) [] (line ++ (c ∷ []))
-
--- the same of many bytes
-abbrev pub written : List ℕ → List ℕ → List ℕ
-written line [] = []
-written line (c ∷ cs) = writtenAt line c ++ written (begunAt line c) cs
-
-abbrev pub begun : List ℕ → List ℕ → List ℕ
-begun line [] = line
-begun line (c ∷ cs) = begun (begunAt line c) cs
-
--- "A last line needs no newline; empty input writes nothing."
-abbrev pub lastWritten : List ℕ → List ℕ
-lastWritten [] = []
-lastWritten (c ∷ cs) = answered (c ∷ cs)
-
-unfoldable pub outputFor : List ℕ → List ℕ
-outputFor input = written [] input ++ lastWritten (begun [] input)
 
 -- What is kept of a line that has begun: of a line that is longer than any line with an answer, enough to know it by.
 abbrev pub keptBytes : ℕ

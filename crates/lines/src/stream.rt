@@ -4,7 +4,8 @@ use crate::answer_line;
 ghost use mathlib.Core.Path.{_≡_};
 ghost use Prim.Native.Nat.{_+_, _-_, _*_, _≤_, min};
 ghost use lib.ListN.{length, take, drop};
-ghost use Rattle.lines.specs.Stream.{lastWritten, keptBytes, Holds, Put, Passed, Turned};
+ghost use Rattle.definitions.specs.Line.{lastWritten};
+ghost use Rattle.lines.specs.Stream.{keptBytes, Holds, Put, Passed, Turned};
 
 // A line of input answered at a place of `out`, with a newline, and the place after that.
 fn answer_at(out: &mut [u8], at: usize, line: &[u8]) -> usize

@@ -1,6 +1,9 @@
 -- `answer_line` meets its contract: what each test says of the line. Assumes nothing.
-use mathlib.Core.Path.{sym, ap, _∙_}
+use mathlib.Core.Path.{_≡_, sym, ap, _∙_}
+use mathlib.Core.List.{List}
+use Prim.Native.Nat.{ℕ}
 use native.Mathlib.Omega.{arith}
+use lib.ListN.{length, drop}
 use Rattle.definitions.specs.declared.Kind.the-variants.{Truncated}
 use Rattle.definitions.specs.Format.{binary64}
 use Rattle.definitions.specs.Line.{answerLine}
@@ -45,8 +48,9 @@ bad-line-requires-3 c κs = search needs
 
 returns-3 : tie.Need-returns-3
 returns-3 c =
-    let s = c .before .before .before .before .before .before .before .before .before in
-    c .bad-line3 .ensures ∙ ap outputOf (sym (bad-first (s .args .line .now) (omega arith) (sym (c .before .before .before .read-field .ensures) ∙ c .before .enum-told .given .1)))
+    let read = c .before .before .before in
+    let line = read .before .before .before .before .before .before .args .line .now in
+    c .bad-line3 .ensures ∙ ap outputOf (sym (bad-first line (omega arith) (sym (read .read-field .ensures) ∙ c .before .enum-told .given .1)))
 
 sub-read-field : tie.Need-sub-read-field
 sub-read-field c = search needs
@@ -69,10 +73,20 @@ enum-told-2 c = search needs
 bad-line-requires-4 : tie.Need-bad-line-requires-4
 bad-line-requires-4 c κs = search needs
 
+-- the line after both fields were read, and what its length and its second field are
+abbrev line-of : tie.After-read-field2 → List ℕ
+line-of c = c .before .before .before .before .before .before .before .before .before .before .before .args .line .now
+
+long : (c : tie.After-read-field2) → length (line-of c) ≡ 33
+long c = c .before .before .before .before .before .before .before .before .before .if1 .left
+
+second : (c : tie.After-read-field2) → fieldOf (drop 17 (line-of c)) ≡ c .read-field2 .result
+second c = ap fieldOf (sym (rest-whole 17 (line-of c))) ∙ sym (c .read-field2 .ensures)
+
 returns-4 : tie.Need-returns-4
 returns-4 c =
-    let s = c .before .before .before .before .before .before .before .before .before .before .before .before .before .before in
-    c .bad-line4 .ensures ∙ ap outputOf (sym (bad-second (s .args .line .now) (c .before .before .before .before .before .before .before .before .before .before .before .before .if1 .left) (ap fieldOf (sym (rest-whole 17 (s .args .line .now))) ∙ sym (c .before .before .before .read-field2 .ensures) ∙ c .before .enum-told2 .given .1)))
+    let read = c .before .before .before in
+    c .bad-line4 .ensures ∙ ap outputOf (sym (bad-second (line-of read) (long read) (second read ∙ c .before .enum-told2 .given .1)))
 
 remainder64-requires : tie.Need-remainder64-requires
 remainder64-requires c κs = search needs
@@ -82,8 +96,14 @@ line-of-answer-requires c κs = rw (c .remainder64 .ensures) (quotient-digit bin
 
 returns-5 : tie.Need-returns-5
 returns-5 c =
-    let s = c .before .before .before .before .before .before .before .before .before .before .before .before .before .before .before .before in
-    c .line-of-answer .ensures ∙ ap outputOf (ap answerLine (c .before .remainder64 .ensures) ∙ sym (answered (s .args .line .now) _ _ (c .before .before .before .before .before .before .before .before .before .before .before .before .before .before .if1 .left) (c .before .before .before .before .before .before .before .before .before .before .before .before .if2 .left) (sym (c .before .before .before .before .before .before .before .before .before .before .read-field .ensures) ∙ c .before .before .before .before .before .before .before .before .x .given .1) (ap fieldOf (sym (rest-whole 17 (s .args .line .now))) ∙ sym (c .before .before .before .before .before .read-field2 .ensures) ∙ c .before .before .before .y .given .1)))
+    let y = c .before .before .before in
+    let read = y .before .before in
+    let x = read .before .before .before in
+    let space = x .before .before .before .before .if2 .left in
+    let first = sym (x .before .before .read-field .ensures) ∙ x .x .given .1 in
+    c .line-of-answer .ensures
+    ∙ ap outputOf
+    (ap answerLine (c .before .remainder64 .ensures) ∙ sym (answered (line-of read) _ _ (long read) space first (second read ∙ y .y .given .1)))
 
 pub answer-line-spec : {M : Type 1} → statement M
 answer-line-spec =

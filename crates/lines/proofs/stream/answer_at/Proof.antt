@@ -6,8 +6,7 @@ use native.Mathlib.Numerals.{add-one}
 use native.Mathlib.Omega.{arith}
 use lib.ListN.{length, take, length-append, length-set}
 use lib.Seq.{paste, paste-zero, paste-suc}
-use Rattle.definitions.specs.Line.{lineFor}
-use Rattle.lines.specs.Stream.{newline}
+use Rattle.definitions.specs.Line.{lineFor, newline}
 use Rattle.lines.proofs.LineLength.{Shows, shows}
 use Rattle.lines.proofs.Placed.{ended}
 use Rattle.lines.proofs.stream.answer_at.Statement.{statement}

@@ -5,7 +5,8 @@ use Prim.Native.Nat.{ℕ, _-_, min}
 use native.Mathlib.Omega.{arith}
 use lib.ListN.{length, take, drop, length-take, length-drop}
 use lib.Seq.{length-take-le}
-use Rattle.lines.specs.Stream.{begun, keptBytes}
+use Rattle.definitions.specs.Line.{begun}
+use Rattle.lines.specs.Stream.{keptBytes}
 use Rattle.lines.proofs.Holding.{holding}
 use Rattle.lines.proofs.Parts.{drop-take, take-min}
 use borrow.Author.Needs.{needs}
