@@ -14,7 +14,7 @@ use Rattle.definitions.specs.Steps as Steps
 use Rattle.definitions.specs.Reports.{Report, nothing, sized, reportOf}
 use Rattle.definitions.specs.Calls.{Call, run, answer, Taken, taken, lastValue, totalBudget, valueAt, Demand3}
 use Rattle.chains.proofs.Reply.{sound-finished, sound-bound, sound-ends}
-use Rattle.chains.proofs.Lists.{handed-taken, ListTells, list-good, list-tells}
+use Rattle.chains.proofs.Lists.{listed-taken, ListTells, list-good, list-tells}
 use Rattle.chains.proofs.Answer.{answer-is, State, finite-written, written-value, written-state, answer-tells}
 
 -- the remainder in one call of two finite operands, the divisor not zero
@@ -54,13 +54,13 @@ module _ (κ : Kind) (x y : ℕ) (w : Value) (cs : List Call) (sx : State x) (ey
       ap (λ (z : Value). patternOf x87 (finite z)) (sym (told .reached ∙ e))
       ∙ list-good valueAt State κ w (answer κ y) p (answer-tells κ y w ey p) cs x sx .pattern
 
-  claim : Demand3 κ x y (valueAt x) w calls
+  claim : Demand3 κ x y (valueAt x) w cs calls
   unfolding calls
   claim =
       let r = told .reply in
       let m = w .count in
       record {
-        handed = handed-taken (answer κ y) cs x;
+        listed = listed-taken (answer κ y) cs x;
         counted = told .steps ∙ sym (told .links);
         bound = rw (told .steps) (sound-bound κ m (valueAt x) r (told .sound));
         ends = λ l. told .done ∙ sound-ends κ m (valueAt x) r (told .sound) (rw (told .steps) at l);
@@ -75,8 +75,8 @@ module _ (κ : Kind) (x y : ℕ) (w : Value) (cs : List Call) (sx : State x) (ey
       }
 
 pub demand3 : (κ : Kind) (x y : ℕ) (v w : Value) (cs : List Call) → x < patterns x87 → classOf x87 x ≡ finite v
-    → classOf x87 y ≡ finite w → 0 < w .count → Demand3 κ x y v w (taken (answer κ y) cs x)
+    → classOf x87 y ≡ finite w → 0 < w .count → Demand3 κ x y v w cs (taken (answer κ y) cs x)
 unfolding calls
 demand3 κ x y v w cs lx ex ey p =
     let h = finite-written x v lx ex in
-    subst (λ (u : Value). Demand3 κ x y u w (taken (answer κ y) cs x)) (written-value h) (claim κ x y w cs (written-state h) ey p)
+    subst (λ (u : Value). Demand3 κ x y u w cs (taken (answer κ y) cs x)) (written-value h) (claim κ x y w cs (written-state h) ey p)

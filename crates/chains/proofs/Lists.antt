@@ -5,6 +5,7 @@ use mathlib.Core.List.{List, [], _∷_, append-nil}
 use Prim.Native.Nat.{ℕ, _+_, _<_}
 use native.Mathlib.Nat.{add-zero, mod-add-mod, add-mod-mod, mod-mod}
 use native.Mathlib.Omega.{arith}
+use borrow.Author.Tests.{eqb-true}
 use lib.Dec.{eqb}
 use lib.ListN.{length, length-append}
 use Rattle.digits.proofs.Tests.{clash}
@@ -16,22 +17,22 @@ use Rattle.definitions.specs.Remainder.{quotientModulus, shown}
 use Rattle.definitions.specs.Steps as Steps
 use Rattle.definitions.specs.Steps.{followed, chain, partsSum}
 use Rattle.definitions.specs.Reports.{Report, sized}
-use Rattle.definitions.specs.Calls.{Call, step, run, Taken, goOn, taken, lastValue, lastNumber, finished, totalSteps, totalQuotient, budgetOf, totalBudget, IsRun, Runs, Some, Handed, callChain, listChain}
+use Rattle.definitions.specs.Calls.{Call, step, run, Taken, goOn, taken, lastValue, lastNumber, finished, totalSteps, totalQuotient, budgetOf, totalBudget, IsRun, Runs, Some, Listed, none, refused, ends, goesOn, callChain, listChain}
 use Rattle.chains.proofs.Reply.{Sound, sound-none, sound-followed}
 use Rattle.chains.proofs.Run.{run-resumed, sound-run, chain-length}
 use Rattle.chains.proofs.Exact.{Exact, exact-none, exact-followed, chain-exact, parts-append}
 
 -- "Each call goes on from the value the last accepted one gave, and the list ends at its first finished call", whatever answers the calls.
-pub handed-taken : {A : Type 0} (f : Call → A → Report A) (cs : List Call) (x : A) → Handed f x (taken f cs x)
+pub listed-taken : {A : Type 0} (f : Call → A → Report A) (cs : List Call) (x : A) → Listed f x cs (taken f cs x)
 unfolding taken
-handed-taken f [] x = tt
-handed-taken {A} f (c ∷ cs) x = go (accepted (f c x .number)) (eqb (f c x .number) 0) refl (handed-taken f cs)
+listed-taken f [] x = none
+listed-taken {A} f (c ∷ cs) x = go (accepted (f c x .number)) (eqb (f c x .number) 0) refl refl (listed-taken f cs)
   where
-    go : (a z : Bool) → eqb (f c x .number) 0 ≡ z → ((y : A) → Handed f y (taken f cs y))
-        → Handed f x (goOn a z (record { call = c; handed = x; report = f c x }) (taken f cs))
-    go true true e h = (refl, refl, λ d. refl, tt)
-    go true false e h = (refl, refl, λ d. clash (cc), h (f c x .value))
-    go false z e h = h x
+    go : (a z : Bool) → accepted (f c x .number) ≡ a → eqb (f c x .number) 0 ≡ z → ((y : A) → Listed f y cs (taken f cs y))
+        → Listed f x (c ∷ cs) (goOn a z (record { call = c; handed = x; report = f c x }) (taken f cs))
+    go true true a e h = ends (eqb-true (f c x .number) 0 e)
+    go true false a e h = goesOn a e (h (f c x .value))
+    go false z a e h = refused a (h x)
 
 -- a call's size, and the number that it gives where it does not finish; a step is a run with a budget of one
 abbrev pub sizeOf : Call → ℕ

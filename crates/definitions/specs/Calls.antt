@@ -92,11 +92,14 @@ abbrev pub Some : {A : Type 0} → List A → Type 0
 Some [] = ⊥
 Some (a ∷ l) = Unit {0}
 
--- each call is handed the value of the one before it, the first one x; what it answered is the answer; and none comes after a 0
-abbrev pub Handed : {A : Type 0} → (Call → A → Report A) → A → List (Taken A) → Type 0
-Handed f x [] = Unit {0}
-Handed f x (t ∷ ts) =
-    (t .handed ≡ x) × (t .report ≡ f (t .call) x) × (eqb (t .report .number) 0 ≡ true → ts ≡ []) × Handed f (t .report .value) ts
+-- The same as four rules, and not as a function: the calls cs from x come to the accepted calls ts. No call is left out, a refused one
+-- leaves the value, an accepted one passes on its own, and nothing comes after a 0.
+pub data Listed {A : Type 0} (f : Call → A → Report A) : A → List Call → List (Taken A) → Type 0 where
+  none : {x : A} → Listed f x [] []
+  refused : {x : A} {c : Call} {cs : List Call} {ts : List (Taken A)} → accepted (f c x .number) ≡ false → Listed f x cs ts → Listed f x (c ∷ cs) ts
+  ends : {x : A} {c : Call} {cs : List Call} → f c x .number ≡ 0 → Listed f x (c ∷ cs) (record { call = c; handed = x; report = f c x } ∷ [])
+  goesOn : {x : A} {c : Call} {cs : List Call} {ts : List (Taken A)} → accepted (f c x .number) ≡ true → eqb (f c x .number) 0 ≡ false → Listed f (f c x .value) cs ts
+      → Listed f x (c ∷ cs) (record { call = c; handed = x; report = f c x } ∷ ts)
 
 -- the steps that an accepted call is made of, and those of a list, on the values that its patterns stand for
 unfoldable pub callChain : Kind → Divisor → Call → Value → List Link
@@ -114,9 +117,9 @@ abbrev pub valueAt : ℕ → Value
 valueAt x = dividendOf (classOf x87 x)
 
 -- Demand 3, of the list cs of calls from the dividend x by the divisor y: v and w are their values, and ts the list's accepted calls.
-pub record Demand3 (κ : Kind) (x y : ℕ) (v w : Value) (ts : List (Taken ℕ)) : Type 0 where
+pub record Demand3 (κ : Kind) (x y : ℕ) (v w : Value) (cs : List Call) (ts : List (Taken ℕ)) : Type 0 where
   -- "Each call goes on from the value the last accepted one gave, and the list ends at its first finished call."
-  pub handed : Handed (answer κ y) x ts
+  pub listed : Listed (answer κ y) x cs ts
   -- "says how many steps it took. That number is the number of steps in the defined chain."
   pub counted : totalSteps ts ≡ length (listChain valueAt κ (by (w .count)) ts)
   -- "It takes at most one step if D is below 64, else at most D/32 rounded down, and once it has taken that many it has finished."

@@ -1,6 +1,6 @@
 -- What a bit pattern stands for. Every finite value of a format is a sign and a whole number of the format's smallest place,
 -- so that nothing here is a fraction and nothing rounds. Definitions only.
-use Prim.Native.Nat.{ℕ, zero, suc, _-_}
+use Prim.Native.Nat.{ℕ}
 use mathlib.Core.Bool.{Bool, true, false, not, cond, Bool·beq}
 use lib.Dec.{eqb}
 use lib.IntN.{ℤ, pos, negℤ, _-ℤ_}

@@ -1,4 +1,4 @@
--- What a reader has to believe: document 01, definition by definition, in its order.
+-- What a reader has to believe: document 01, definition by definition, in its order, with its table of numbers before what gives them.
 pub mod Class
 pub mod Format
 pub mod Numbers

@@ -14,7 +14,7 @@ quotientModulus = 8
 abbrev pub shown : ℕ → ℕ
 shown q = q % quotientModulus
 
--- what a refusal returns as its value
+-- what a refusal returns as its value: the house NaN, in this one place
 abbrev pub refusedValue : Format → ℕ
 refusedValue f = houseNan f
 

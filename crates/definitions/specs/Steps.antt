@@ -24,7 +24,7 @@ cutAt j m x =
       steps = 1;
     }
 
--- the size that a partial step of a call of size n uses
+-- the size that a partial step of a call of size n uses: n itself, whatever D is. A definition of its own, so that a rule on D has one place
 abbrev pub usedSize : ℤ → ℕ → ℕ
 usedSize D n = n
 

@@ -1,5 +1,5 @@
 -- Document 01, "Readings on both sides": the ten cases that are proved, as one table of what is asked and what is printed there,
--- and cases 11 and 12 as a second one. Definitions only.
+-- and cases 11 and 12, with one more from "Authority", as a second one. Definitions only.
 use Prim.Native.Nat.{ℕ}
 use mathlib.Core.List.{List, [], _∷_}
 use lib.IntN.{ℤ, pos, negsuc}
@@ -8,7 +8,7 @@ use Rattle.definitions.specs.declared.Kind.{Kind}
 use Rattle.definitions.specs.declared.Kind.the-variants.{Truncated, Nearest}
 use Rattle.definitions.specs.Remainder.{Remainder, remainder}
 use Rattle.definitions.specs.Reports.{Report, nothing, stepReport, runReport}
-use Rattle.definitions.specs.Calls.{Call, step, answer, taken, lastValue, totalQuotient}
+use Rattle.definitions.specs.Calls.{Call, step, answer, taken, lastValue, lastNumber, totalQuotient}
 use Rattle.definitions.specs.declared.Rounding.{Rounding}
 use Rattle.definitions.specs.declared.Rounding.the-variants.{Exact, Up, Down}
 use Rattle.definitions.specs.Scale.{ScaleReport, scaleReport}
@@ -37,12 +37,12 @@ abbrev tellScaled : ScaleReport → Told
 tellScaled r = scaled (r .number) (r .value) (r .says)
 
 unfoldable pub told : Asked → Told
-unfolding remainder stepReport runReport answer taken lastValue totalQuotient scaleReport
+unfolding remainder stepReport runReport answer taken lastValue lastNumber totalQuotient scaleReport
 told (divide κ x y) = tellRemainder (remainder binary32 κ x y)
 told (oneStep κ n x y) = tellReport (stepReport nothing κ n x y)
 told (twoSteps κ n x y) =
     let ts = taken (answer κ y) (step nothing n ∷ step nothing n ∷ []) x in
-    value 0 (lastValue x ts) (totalQuotient ts)
+    value (lastNumber 7 ts) (lastValue x ts) (totalQuotient ts)
 told (wholeRun κ n b x y) = tellReport (runReport nothing κ n b x y)
 told (scale x k) = tellScaled (scaleReport binary32 x k)
 
@@ -97,6 +97,8 @@ longReadings =
     ∷ reading (wholeRun Truncated 63 9 0x403F8000000000000000 0x3FFF8000000000000000) (steps 0 0x00000000000000000000 0 2)
     -- 12: the largest finite value by the smallest denormal
     ∷ reading (wholeRun Truncated 32 4294967295 0x7FFEFFFFFFFFFFFFFFFF 0x00000000000000000001) (steps 0 0x00000000000000000000 0 3)
+    -- "a partial value may fall further (2^127 by 2^64 − 1 gives 2^63)", at size 63
+    ∷ reading (oneStep Truncated 63 0x407E8000000000000000 0x403EFFFFFFFFFFFFFFFF) (steps 1 0x403E8000000000000000 0 1)
     ∷ []
 
 -- what the definitions tell of each row, and what is printed of it

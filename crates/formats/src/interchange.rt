@@ -39,7 +39,7 @@ fn sign_weight(shape: Shape) -> u64
     leading_weight(shape) * (top_field(shape) + 1)
 }
 
-// The operand of a pattern. Only the formats of this crate call it, each with its own shape.
+// The operand of a pattern. Only crates of this repository call it, with the shape of a format.
 pub fn unpack(shape: Shape, pattern: u64) -> Operand
     requires { ⌜ Sound shape × (pattern < patterns (formatOf shape)) ⌝ }
     ensures { λ r. ⌜ r ≡ operandOf (shape .smallest) (classOf (formatOf shape) pattern) ⌝ }
@@ -101,7 +101,7 @@ fn magnitude_of(shape: Shape, value: Unpacked) -> u64
     (kept.dropped as u64) * leading_weight(shape) + kept.significand
 }
 
-// The pattern of an operand that the format holds. Only the formats of this crate call it.
+// The pattern of an operand that the format holds. Only crates of this repository call it.
 pub fn pack(shape: Shape, operand: Operand) -> u64
     requires { ⌜ Sound shape × PackableOperand (shape .smallest) (reach (formatOf shape)) operand ⌝ }
     ensures { λ r. ⌜ r ≡ patternOf (formatOf shape) (classIn (shape .smallest) operand) ⌝ }
