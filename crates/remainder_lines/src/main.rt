@@ -1,5 +1,5 @@
-// Answers each line of standard input by a line of standard output: document 01, "The line program". Everything but reading and writing
-// is done, and proved, by `lines`.
+// Answers each line of standard input by a line of standard output: document 01, "The line program". What is written for a buffer of
+// input, and what is kept of it, is proved in `lines`; what this file does is read, hand on and write, and its stored input tests that.
 use libc::STDIN_FILENO;
 use libc::STDOUT_FILENO;
 use lines::stream::answer_last;
