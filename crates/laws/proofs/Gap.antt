@@ -41,7 +41,7 @@ pub gap-far : (n m : ℕ) → 64 ≤ size n - size m → natAbs (gap n m) ≡ si
 gap-far n m far = gap-is (λ D. natAbs D ≡ size n - size m) n m refl (λ k h. omega arith)
 
 -- "The gap D is the dividend's exponent less the divisor's": the smallest place cancels
-cancel : (z a b : ℤ) → (z +ℤ a) -ℤ (z +ℤ b) ≡ a -ℤ b
+pub cancel : (z a b : ℤ) → (z +ℤ a) -ℤ (z +ℤ b) ≡ a -ℤ b
 cancel z a b = rw (negℤ-+ℤ z b, +ℤ-comm z a, ← +ℤ-assoc (a +ℤ z) (negℤ z) (negℤ b), +ℤ-negℤ-cancel a z)
 
 pub gap-exponents : (f : Format) (n m : ℕ) → 0 < n → 0 < m → gap n m ≡ exponentOf f n -ℤ exponentOf f m

@@ -1,24 +1,20 @@
 -- A partial step of two significands is the cut of their counts. Assumes nothing.
-use mathlib.Core.Path.{_≡_, refl, sym, ap, _∙_, subst}
-use mathlib.Core.Bool.{Bool, true, false}
-use Prim.Native.Nat.{ℕ, _+_, _-_, _*_, _/_, _%_, _^_, _≤_, _<_}
-use native.Mathlib.Nat.{mul-assoc, mul-right-comm, mul-pos, mod-lt, lt-of-lt-of-le, pos-of-ne-zero}
+use mathlib.Core.Path.{_≡_, sym, ap, _∙_}
+use mathlib.Core.Bool.{Bool}
+use Prim.Native.Nat.{ℕ, _+_, _-_, _*_, _/_, _%_, _^_, _<_}
+use native.Mathlib.Nat.{mul-assoc, mul-right-comm, mul-pos, mod-lt, lt-of-lt-of-le}
 use native.Mathlib.Omega.{arith}
-use lib.IntN.{ℤ, pos, negsuc, natAbs, _+ℤ_, _-ℤ_, +ℤ-assoc, +ℤ-negℤ-cancel}
+use lib.IntN.{ℤ, pos, _+ℤ_, _-ℤ_, +ℤ-assoc, +ℤ-negℤ-cancel}
 use lib.Pow.{pow-add, pow-pos}
 use lib.Ieee.{size}
 use Rattle.digits.specs.Digits.{Digits}
 use Rattle.digits.proofs.Common.{mod-times}
 use Rattle.digits.proofs.Size.{size-pos}
-use Rattle.definitions.specs.Class.{Value, finite}
 use Rattle.definitions.specs.Steps.{cutAt}
-use Rattle.division.specs.Divided.{dividedOf}
-use Rattle.formats.specs.Operand.{operandOf, unpackedOf, normalOf}
-use Rattle.formats.specs.declared.operand.Unpacked.{Unpacked}
+use Rattle.formats.specs.Operand.{normalOf}
 use Rattle.formats.proofs.Lead.{lead, lead-top, lead-word, lead-exact}
 use Rattle.formats.proofs.Normal.{normal-operand}
-use Rattle.remainder.specs.Pair.{Unpacks, leftOf}
-use Rattle.remainder.specs.declared.pair.Left.{Left}
+use Rattle.remainder.specs.Pair.{leftOf}
 use Rattle.remainder.proofs.Link.{link-div, link-mod}
 
 -- the dividend n and the divisor m, of which k places of the quotient are taken and j are left

@@ -1,8 +1,7 @@
 -- One turn of a run. Assumes nothing.
-use mathlib.Core.Path.{_≡_, refl, sym, ap, _∙_, subst}
-use mathlib.Core.Bool.{Bool, true, false}
-use Prim.Native.Nat.{ℕ, zero, suc, _+_, _-_, _%_, _^_, _≤_, _<_}
-use native.Mathlib.Nat.{add-sub-of-le}
+use mathlib.Core.Path.{_≡_, refl, sym, ap, _∙_}
+use mathlib.Core.Bool.{true, false}
+use Prim.Native.Nat.{ℕ, _+_, _-_, _%_, _^_, _<_}
 use native.Mathlib.Omega.{arith}
 use Rattle.definitions.specs.Class.{Value, finite}
 use Rattle.definitions.specs.Format.{Held, x87}
@@ -18,7 +17,6 @@ use Rattle.formats.specs.declared.operand.Unpacked.{Unpacked}
 use Rattle.formats.specs.Operand.{operandOf}
 use Rattle.formats.proofs.Lead.{some-operand}
 use Rattle.partial.specs.Stands.{Stands, StandsOperand, valueIn, valueOperand, steppedOf, ranOf}
-use Rattle.partial.specs.declared.run.Ran.{Ran}
 use Rattle.partial.specs.declared.value.Stepped.{Stepped}
 use Rattle.partial.proofs.Standing.{value-back, stands-value}
 

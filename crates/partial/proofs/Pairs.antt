@@ -1,38 +1,29 @@
 -- The steps of two operands that stand for x87 values. Assumes nothing.
-use mathlib.Core.Path.{_≡_, refl, sym, ap, _∙_, subst}
-use mathlib.Core.Bool.{Bool, true, false, cond}
-use Prim.Native.Nat.{ℕ, _+_, _-_, _*_, _/_, _%_, _^_, _≤_, _<_}
+use mathlib.Core.Path.{_≡_, sym, ap, _∙_}
+use mathlib.Core.Bool.{Bool, true, false}
+use Prim.Native.Nat.{ℕ, _+_, _-_, _*_, _/_, _%_, _^_, _≤_}
 use native.Mathlib.Omega.{arith}
 use borrow.Author.Tests.{ltb-false}
-use lib.Dec.{T}
-use lib.IntN.{ℤ, pos, negsuc, natAbs, _-ℤ_}
+use lib.IntN.{ℤ, pos, natAbs, _-ℤ_}
 use lib.Ieee.{size}
-use lib.Signed.{ltZ, nonNeg}
-use Rattle.digits.proofs.Tests.{clash}
+use lib.Signed.{ltZ}
 use Rattle.definitions.specs.Class.{Value, gap}
 use Rattle.definitions.specs.Format.{x87}
-use Rattle.definitions.specs.Division.{Reply, finishBy, finish}
-use Rattle.definitions.specs.Steps.{cutAt, stepBy, near}
+use Rattle.definitions.specs.Division.{finishBy, finish}
+use Rattle.definitions.specs.Steps.{cutAt, stepBy}
 use Rattle.definitions.specs.Reports.{sized}
 use Rattle.definitions.specs.declared.Kind.{Kind}
 use Rattle.chains.proofs.Step.{sized-bounds}
 use Rattle.formats.specs.declared.operand.Operand.the-variants.{Zero}
 use Rattle.formats.specs.Operand.{normalOf, unpackedOf, operandOf}
 use Rattle.formats.specs.declared.operand.Unpacked.{Unpacked}
-use Rattle.formats.proofs.Lead.{lead}
 use Rattle.laws.proofs.Division.{finish-far}
 use Rattle.laws.proofs.Gap.{gap-near, gap-far}
 use Rattle.remainder.specs.Pair.{leftOf}
 use Rattle.remainder.specs.declared.pair.Left.{Left}
-use Rattle.partial.specs.Stands.{valueIn, Stands, steppedOf}
-use Rattle.partial.specs.declared.value.Stepped.{Stepped}
+use Rattle.partial.specs.Stands.{valueIn, Stands, steppedOf, finishedOf}
 use Rattle.partial.proofs.Standing.{gap-is}
 use Rattle.partial.proofs.Cut.{cut-is}
-
--- a gap of 64 or more is not negative
-pub not-near : (d : ℤ) → ltZ d (pos 64) ≡ false → T (nonNeg d)
-not-near (pos n) e = tt
-not-near (negsuc n) e = clash (cc)
 
 module _ (x y : Unpacked) (sx : Stands x) (sy : Stands y) (d : ℤ) (is : d ≡ x .exponent -ℤ y .exponent) where
   n : ℕ
@@ -86,7 +77,7 @@ module _ (x y : Unpacked) (sx : Stands x) (sy : Stands y) (d : ℤ) (is : d ≡ 
 
 -- a zero finishes as it is
 pub zero-step : (κ : Kind) (k : ℕ) (neg : Bool) (y : Unpacked) → Stands y
-    → record { done = true; left = record { value = Zero neg; quotient = 0 } } ≡ steppedOf (stepBy κ k (valueIn y .count) (record { negative = neg; count = 0 }))
+    → finishedOf (Zero neg) ≡ steppedOf (stepBy κ k (valueIn y .count) (record { negative = neg; count = 0 }))
 unfolding stepBy gap operandOf finish
 zero-step κ k neg y sy =
     let z : Value = record { negative = neg; count = 0 } in

@@ -1,31 +1,36 @@
 -- What step and run report, by what the checks made of their operands. Assumes nothing.
-use mathlib.Core.Path.{_≡_, refl, sym, ap, _∙_, subst}
+use mathlib.Core.Path.{_≡_, refl, sym, ap, _∙_}
 use mathlib.Core.Bool.{Bool, true, false, not, cond, _||_}
-use Prim.Native.Nat.{ℕ, zero, suc, _+_, _%_, _^_}
+use Prim.Native.Nat.{ℕ, zero, suc, _%_, _≤_, _<_}
 use native.Mathlib.Omega.{arith}
+use borrow.Author.Tests.{le-leb, lt-leb}
 use lib.Dec.{eqb, eqb·suc-zero}
-use Rattle.definitions.specs.Class.{Value, Class, finite}
+use Rattle.definitions.specs.Class.{Class, finite}
 use Rattle.definitions.specs.Format.{Held, x87, classOf, patternOf, reach}
-use Rattle.definitions.specs.Numbers.{Tests, numberOf, checks, first, dividing, accepted}
+use Rattle.definitions.specs.Numbers.{numberOf, checks, first, dividing, accepted}
 use Rattle.definitions.specs.Division.{Reply, by, finish, unbounded, dividendOf, divisorOf}
 use Rattle.definitions.specs.Remainder.{refusedValue, shown}
-use Rattle.definitions.specs.Steps.{step, stepBy, run, followed}
-use Rattle.definitions.specs.Reports.{Report, Lent, nothing, sized, calling, reportOf, stepReport, runReport}
+use Rattle.definitions.specs.Steps.{step, stepBy, run}
+use Rattle.definitions.specs.Reports.{nothing, sized, calling, reportOf, stepReport, runReport}
 use Rattle.definitions.specs.Answers.{refusalNumber}
 use Rattle.definitions.specs.declared.Kind.{Kind}
 use Rattle.definitions.specs.declared.Refusal.{Refusal}
+use Rattle.definitions.specs.declared.Refusal.the-variants.{Missized}
 use Rattle.chains.proofs.Answer.{step-held, run-held}
 use Rattle.chains.proofs.Step.{step-one}
 use Rattle.formats.specs.declared.operand.Operand.{Operand}
 use Rattle.formats.specs.declared.operand.Unpacked.{Unpacked}
-use Rattle.formats.specs.Operand.{operandOf, classIn, PackableOperand}
+use Rattle.formats.specs.Operand.{PackableOperand}
 use Rattle.laws.proofs.Regular.{regular80}
 use Rattle.laws.proofs.RoundTrip.{read-held}
 use Rattle.digits.proofs.Tests.{clash}
-use Rattle.remainder.specs.Examined.{ReturnsDividend, Divides}
+use Rattle.remainder.specs.Examined.{ReturnsDividend, Divides, Judged}
+use Rattle.remainder.specs.declared.examine.Examined.{Examined}
+use Rattle.remainder.specs.declared.examine.Examined.the-variants.{Refused, Returned, Pair}
 use Rattle.remainder.proofs.Judge.{refusal-refuses}
 use Rattle.remainder.proofs.Told.{within-x87, packs, pattern-is}
-use Rattle.partial.specs.Stands.{Stands, valueIn, steppedOf, ranOf, returnedOf, stepWritten, runWritten}
+use Rattle.partial.specs.Called.{Called}
+use Rattle.partial.specs.Stands.{Stands, valueIn, steppedOf, finishedOf, ranOf, returnedOf, stepWritten, runWritten}
 use Rattle.partial.specs.declared.run.Ran.{Ran}
 use Rattle.partial.specs.declared.value.Stepped.{Stepped}
 use Rattle.partial.proofs.Standing.{stands-unpacks}
@@ -33,13 +38,6 @@ use Rattle.partial.proofs.Standing.{stands-unpacks}
 -- the checks after those on the operands
 after : Bool → Bool → ℕ
 after spent partial = cond spent 7 (cond partial 1 0)
-
--- a call's number, by its own tests
-in-order : (two three four five spent partial : Bool) → (t : Tests)
-    → t ≡ record { misfit = false; missized = false; anyUnsupported = two; anyNan = three; infiniteDividend = four; zeroDivisor = five; zeroSplit = false; spent = spent; partial = partial }
-    → numberOf t ≡ cond two 2 (cond three 3 (cond four 4 (cond five 5 (after spent partial))))
-unfolding numberOf checks first after
-in-order two three four five spent partial t e = ap numberOf e
 
 operand-number : Bool → Bool → Bool → Bool → ℕ
 operand-number two three four five = cond two 2 (cond three 3 (cond four 4 (cond five 5 0)))
@@ -60,41 +58,54 @@ call-number n x y spent partial z =
     let t = dividing x y in
     rw z (pick (t .anyUnsupported) (t .anyNan) (t .infiniteDividend) (t .zeroDivisor) (after spent partial))
 
-abbrev pub refusedReport : ℕ → Report ℕ
-refusedReport n = record { number = n; value = refusedValue x87; quotient = 0; steps = 0 }
-
-missized-number : (n : ℕ) (x y : Class) (spent partial : Bool) → sized n ≡ false → numberOf (calling nothing n x y spent partial) ≡ 6
+missized-number : (n : ℕ) (x y : Class) → sized n ≡ false → (spent partial : Bool) → numberOf (calling nothing n x y spent partial) ≡ 6
 unfolding numberOf checks first
-missized-number n x y spent partial z = rw z
+missized-number n x y z spent partial = rw z
 
-refused-number : (n : ℕ) (x y : Class) (spent partial : Bool) (w : Refusal) → sized n ≡ true → numberOf (dividing x y) ≡ refusalNumber w
-    → numberOf (calling nothing n x y spent partial) ≡ refusalNumber w
-refused-number n x y spent partial w z e = call-number n x y spent partial z ∙ rw (e, first-of (eqb (refusalNumber w) 0) _ _ (refusal-refuses w))
+refused-number : (n : ℕ) (x y : Class) (w : Refusal) → sized n ≡ true → numberOf (dividing x y) ≡ refusalNumber w
+    → (spent partial : Bool) → numberOf (calling nothing n x y spent partial) ≡ refusalNumber w
+refused-number n x y w z e spent partial = call-number n x y spent partial z ∙ rw (e, first-of (eqb (refusalNumber w) 0) _ _ (refusal-refuses w))
   where
     first-of : (a b c : Bool) → a || b || c ≡ false → a ≡ false
     first-of true b c q = clash (cc)
     first-of false b c q = refl
 
-accepted-number : (n : ℕ) (x y : Class) (spent partial : Bool) → sized n ≡ true → numberOf (dividing x y) ≡ 0 → numberOf (calling nothing n x y spent partial) ≡ after spent partial
-accepted-number n x y spent partial z e = call-number n x y spent partial z ∙ rw e
+accepted-number : (n : ℕ) (x y : Class) → sized n ≡ true → numberOf (dividing x y) ≡ 0 → (spent partial : Bool) → numberOf (calling nothing n x y spent partial) ≡ after spent partial
+accepted-number n x y z e spent partial = call-number n x y spent partial z ∙ rw e
+
+-- a size, by the two comparisons
+pub size-small : (n : ℕ) → n < 32 → sized n ≡ false
+size-small n h = simp (lt-leb 32 n h)
+
+pub size-large : (n : ℕ) → 63 < n → sized n ≡ false
+size-large n h = simp (le-leb 32 n (omega arith), lt-leb n 63 h)
+
+pub size-right : (n : ℕ) → 32 ≤ n → n ≤ 63 → sized n ≡ true
+size-right n h k = simp (le-leb 32 n h, le-leb n 63 k)
+
+-- what the checks make of a call, by its size
+pub called-missized : (n : ℕ) (x y : Class) → sized n ≡ false → Called n x y (Refused Missized)
+called-missized = missized-number
+
+pub called-sized : (n : ℕ) (x y : Class) (e : Examined) → sized n ≡ true → Judged (x87 .smallest) x y e → Called n x y e
+called-sized n x y (Refused w) z j = refused-number n x y w z j
+called-sized n x y (Returned o) z j = (z, j)
+called-sized n x y (Pair a b) z j = (z, j)
 
 -- ---- a step
 module _ (κ : Kind) (n x y : ℕ) where
-  pub step-missized : sized n ≡ false → refusedReport 6 ≡ stepReport nothing κ n x y
+  pub step-refused : (w : Refusal) → Called n (classOf x87 x) (classOf x87 y) (Refused w)
+      → record { number = refusalNumber w; value = refusedValue x87; quotient = 0; steps = 0 } ≡ stepReport nothing κ n x y
   unfolding stepReport
-  step-missized z = rw (missized-number n (classOf x87 x) (classOf x87 y) false _ z)
+  step-refused w e = rw (e false _, refusal-refuses w)
 
   module _ (z : sized n ≡ true) where
-    pub step-refused : (w : Refusal) → numberOf (dividing (classOf x87 x) (classOf x87 y)) ≡ refusalNumber w → refusedReport (refusalNumber w) ≡ stepReport nothing κ n x y
-    unfolding stepReport
-    step-refused w e = rw (refused-number n (classOf x87 x) (classOf x87 y) false _ w z e, refusal-refuses w)
-
     -- an accepted step's reply, written down
     step-answered : (r : Reply) → numberOf (dividing (classOf x87 x) (classOf x87 y)) ≡ 0 → step κ n (divisorOf (classOf x87 y)) (dividendOf (classOf x87 x)) ≡ r
         → record { number = cond (r .done) 0 1; value = patternOf x87 (finite (r .value)); quotient = shown (r .whole); steps = r .steps } ≡ stepReport nothing κ n x y
     unfolding stepReport after
     step-answered r e q = sym (ap (λ (s : Reply). reportOf (numberOf (calling nothing n (classOf x87 x) (classOf x87 y) false (not (s .done)))) s) q
-        ∙ ap (λ (k : ℕ). reportOf k r) (accepted-number n (classOf x87 x) (classOf x87 y) false (not (r .done)) z e) ∙ go (r .done))
+        ∙ ap (λ (k : ℕ). reportOf k r) (accepted-number n (classOf x87 x) (classOf x87 y) z e false (not (r .done))) ∙ go (r .done))
       where
         go : (d : Bool) → reportOf (after false (not d)) r ≡ record { number = cond d 0 1; value = patternOf x87 (finite (r .value)); quotient = shown (r .whole); steps = r .steps }
         go true = refl
@@ -102,7 +113,7 @@ module _ (κ : Kind) (n x y : ℕ) where
 
     -- the dividend itself
     pub step-returned : (o : Operand) → ReturnsDividend (x87 .smallest) (classOf x87 x) (classOf x87 y) o
-        → record { number = 0; value = patternOf x87 (classIn (x87 .smallest) o); quotient = 0; steps = 1 } ≡ stepReport nothing κ n x y
+        → stepWritten (finishedOf o) ≡ stepReport nothing κ n x y
     unfolding finish
     step-returned o j =
         let h = read-held x87 regular80 x (j .value) (j .dividend) in
@@ -111,21 +122,18 @@ module _ (κ : Kind) (n x y : ℕ) where
 
 -- ---- a run
 module _ (κ : Kind) (n b x y : ℕ) where
-  pub run-missized : sized n ≡ false → refusedReport 6 ≡ runReport nothing κ n b x y
+  pub run-refused : (w : Refusal) → Called n (classOf x87 x) (classOf x87 y) (Refused w)
+      → record { number = refusalNumber w; value = refusedValue x87; quotient = 0; steps = 0 } ≡ runReport nothing κ n b x y
   unfolding runReport
-  run-missized z = rw (missized-number n (classOf x87 x) (classOf x87 y) _ false z)
+  run-refused w e = rw (e _ false, refusal-refuses w)
 
   module _ (z : sized n ≡ true) where
-    pub run-refused : (w : Refusal) → numberOf (dividing (classOf x87 x) (classOf x87 y)) ≡ refusalNumber w → refusedReport (refusalNumber w) ≡ runReport nothing κ n b x y
-    unfolding runReport
-    run-refused w e = rw (refused-number n (classOf x87 x) (classOf x87 y) _ false w z e, refusal-refuses w)
-
     -- an accepted run's reply, written down
     run-answered : (r : Reply) → numberOf (dividing (classOf x87 x) (classOf x87 y)) ≡ 0 → run κ n b (divisorOf (classOf x87 y)) (dividendOf (classOf x87 x)) ≡ r
         → record { number = cond (r .done) 0 7; value = patternOf x87 (finite (r .value)); quotient = shown (r .whole); steps = r .steps } ≡ runReport nothing κ n b x y
     unfolding runReport after
     run-answered r e q = sym (ap (λ (s : Reply). reportOf (numberOf (calling nothing n (classOf x87 x) (classOf x87 y) (not (s .done)) false)) s) q
-        ∙ ap (λ (k : ℕ). reportOf k r) (accepted-number n (classOf x87 x) (classOf x87 y) (not (r .done)) false z e) ∙ go (r .done))
+        ∙ ap (λ (k : ℕ). reportOf k r) (accepted-number n (classOf x87 x) (classOf x87 y) z e (not (r .done)) false) ∙ go (r .done))
       where
         go : (d : Bool) → reportOf (after (not d) false) r ≡ record { number = cond d 0 7; value = patternOf x87 (finite (r .value)); quotient = shown (r .whole); steps = r .steps }
         go true = refl

@@ -1,14 +1,12 @@
 -- Operands that stand for x87 values: they are within the code's range, and what a step leaves is one again. Assumes nothing.
 use mathlib.Core.Path.{_≡_, refl, sym, ap, _∙_, subst}
-use Prim.Native.Nat.{ℕ, _-_, _^_, _<_}
-use lib.IntN.{ℤ, pos, _-ℤ_, _+ℤ_}
-use lib.Ieee.{size}
-use Rattle.definitions.specs.Class.{Value, Class, finite, gap}
-use Rattle.definitions.specs.Format.{Format, Held, x87, exponentOf}
+use lib.IntN.{_-ℤ_}
+use Rattle.definitions.specs.Class.{Value, finite, gap}
+use Rattle.definitions.specs.Format.{Held, x87}
 use Rattle.definitions.specs.Division.{dividendOf}
 use Rattle.formats.specs.declared.operand.Unpacked.{Unpacked}
 use Rattle.formats.specs.declared.operand.Operand.{Operand}
-use Rattle.formats.specs.declared.operand.Operand.the-variants.{Zero, Finite}
+use Rattle.formats.specs.declared.operand.Operand.the-variants.{Finite}
 use Rattle.formats.specs.Operand.{operandOf, unpackedOf, classIn}
 use Rattle.formats.proofs.Lead.{by-count, class-back, some-operand}
 use Rattle.laws.proofs.Gap.{gap-exponents}

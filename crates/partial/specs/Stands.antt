@@ -1,8 +1,8 @@
 -- How the code holds an x87 value on its way. Nothing to believe: these only name the code's own values.
 use Prim.Native.Nat.{ℕ, _%_, _^_}
-use mathlib.Core.Bool.{Bool, not, cond}
+use mathlib.Core.Bool.{true, not, cond}
 use lib.Dec.{eqb}
-use Rattle.definitions.specs.Class.{Value, Class, finite}
+use Rattle.definitions.specs.Class.{Value, finite}
 use Rattle.definitions.specs.Format.{Held, x87, patternOf}
 use Rattle.definitions.specs.Division.{Reply, dividendOf}
 use Rattle.definitions.specs.Reports.{Report}
@@ -36,6 +36,10 @@ StandsOperand (Finite u) = Stands u
 -- a step's reply, on its way
 abbrev pub steppedOf : Reply → Stepped
 steppedOf r = record { done = r .done; left = leftOf (x87 .smallest) r }
+
+-- a step that takes nothing off
+abbrev pub finishedOf : Operand → Stepped
+finishedOf o = record { done = true; left = record { value = o; quotient = 0 } }
 
 -- a run's reply, on its way
 abbrev pub ranOf : Reply → Ran

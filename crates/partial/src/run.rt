@@ -1,18 +1,16 @@
 // A run of steps of one size with a budget, of every bit pattern.
+use crate::checks::examine_sized;
 use crate::value::step_value;
 use definitions::Extended;
 use definitions::Kind;
-use definitions::Refusal;
 use definitions::RunAnswer;
 use formats::extended::X87;
 use formats::operand::Operand;
 use formats::operand::Unpacked;
 use remainder::examine::Examined;
-use remainder::examine::examine;
 use remainder::patterns::QUOTIENT_MODULUS;
 ghost use mathlib.Core.Path.{_≡_};
-ghost use mathlib.Core.Bool.{true, false, cond, not};
-ghost use lib.Dec.{eqb};
+ghost use mathlib.Core.Bool.{true, false};
 ghost use Rattle.definitions.specs.Format.{x87, reach};
 ghost use Rattle.definitions.specs.Division.{by};
 ghost use Rattle.definitions.specs.Steps.{run};
@@ -110,15 +108,7 @@ fn run_answer(ran: Ran) -> RunAnswer
 pub fn run80(x: Extended, y: Extended, size: u32, kind: Kind, budget: u32) -> RunAnswer
     ensures { λ r. ⌜ runTold r ≡ runReport nothing kind size budget (joined x) (joined y) ⌝ }
 {
-    if size < 32 {
-        return RunAnswer::Refused(Refusal::Missized);
-    }
-    if 63 < size {
-        return RunAnswer::Refused(Refusal::Missized);
-    }
-    let dividend = X87::of_pattern(x).operand;
-    let divisor = X87::of_pattern(y).operand;
-    match examine(dividend, divisor) {
+    match examine_sized(x, y, size) {
         Examined::Refused(why) => RunAnswer::Refused(why),
         Examined::Returned(operand) => run_answer(returned_run(operand, budget)),
         Examined::Pair(a, b) => run_answer(run_pair(kind, a, b, size, budget)),

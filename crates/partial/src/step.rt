@@ -1,14 +1,14 @@
 // One step of two x87 operands, of every bit pattern.
+use crate::checks::examine_sized;
 use crate::value::Stepped;
+use crate::value::finished;
 use crate::value::step_value;
 use definitions::Extended;
 use definitions::Kind;
-use definitions::Refusal;
 use definitions::StepAnswer;
 use formats::extended::X87;
 use formats::operand::Operand;
 use remainder::examine::Examined;
-use remainder::examine::examine;
 use remainder::patterns::QUOTIENT_MODULUS;
 ghost use mathlib.Core.Path.{_≡_};
 ghost use Rattle.definitions.specs.Format.{x87, reach};
@@ -36,20 +36,9 @@ fn step_answer(stepped: Stepped) -> StepAnswer
 pub fn step80(x: Extended, y: Extended, size: u32, kind: Kind) -> StepAnswer
     ensures { λ r. ⌜ stepTold r ≡ stepReport nothing kind size (joined x) (joined y) ⌝ }
 {
-    if size < 32 {
-        return StepAnswer::Refused(Refusal::Missized);
-    }
-    if 63 < size {
-        return StepAnswer::Refused(Refusal::Missized);
-    }
-    let dividend = X87::of_pattern(x).operand;
-    let divisor = X87::of_pattern(y).operand;
-    match examine(dividend, divisor) {
+    match examine_sized(x, y, size) {
         Examined::Refused(why) => StepAnswer::Refused(why),
-        Examined::Returned(operand) => StepAnswer::Finished {
-            value: X87 { operand }.pattern(),
-            quotient: 0,
-        },
+        Examined::Returned(operand) => step_answer(finished(operand)),
         Examined::Pair(a, b) => step_answer(step_value(kind, Operand::Finite(a), b, size)),
     }
 }

@@ -3,11 +3,11 @@ use definitions::Kind;
 use division::divide;
 use formats::operand::Operand;
 use formats::operand::Unpacked;
-use formats::operand::normalise;
 use formats::operand::power_of_two;
 use remainder::pair::Left;
 use remainder::pair::finish_pair;
 use remainder::pair::gap;
+use remainder::pair::settle;
 ghost use mathlib.Core.Path.{_≡_};
 ghost use mathlib.Core.Bool.{true, false};
 ghost use Prim.Native.Nat.{_*_, _%_, _-_, _^_};
@@ -17,7 +17,7 @@ ghost use Rattle.definitions.specs.Format.{x87};
 ghost use Rattle.definitions.specs.Steps.{cutAt, stepBy, usedSize};
 ghost use Rattle.definitions.specs.Reports.{sized};
 ghost use Rattle.remainder.specs.Pair.{leftOf};
-ghost use Rattle.partial.specs.Stands.{Stands, StandsOperand, valueIn, valueOperand, steppedOf};
+ghost use Rattle.partial.specs.Stands.{Stands, StandsOperand, valueIn, valueOperand, steppedOf, finishedOf};
 
 // What a step comes to: whether it finished, and what is left.
 pub struct Stepped {
@@ -35,14 +35,22 @@ fn raised(quotient: u32, places: u32) -> u32
     ((quotient as u64) * power_of_two(places) % 4294967296) as u32
 }
 
-// A partial step: `size` places of the quotient are taken, whatever the kind.
+// A partial step: `size` places of the quotient are taken, and both kinds cut.
 fn cut_pair(x: Unpacked, y: Unpacked, size: u32, d: i32) -> Left
     requires { ⌜ Stands x × Stands y × (sized size ≡ true) × (d ≡ x .exponent -ℤ y .exponent) × (ltZ d (pos 64) ≡ false) ⌝ }
     ensures { λ r. ⌜ r ≡ leftOf (x87 .smallest) (cutAt (natAbs d - usedSize d size) (valueIn y .count) (valueIn x)) ⌝ }
 {
-    let left = divide(x.significand, y.significand, size);
+    let divided = divide(x.significand, y.significand, size);
+    let left = settle(
+        Kind::Truncated,
+        x.negative,
+        divided,
+        y.significand,
+        x.exponent - (size as i32),
+    );
+    let value = left.value;
     Left {
-        value: normalise(x.negative, left.remainder, x.exponent - (size as i32)),
+        value,
         quotient: raised(left.quotient, (d as u32) - size),
     }
 }
@@ -65,7 +73,17 @@ fn step_pair(kind: Kind, x: Unpacked, y: Unpacked, size: u32) -> Stepped
     }
 }
 
-// A zero finishes: it is what it was, and nothing is taken off.
+// A step that takes nothing off: the value is what it was.
+pub fn finished(value: Operand) -> Stepped
+    ensures { λ r. ⌜ r ≡ finishedOf value ⌝ }
+{
+    Stepped {
+        done: true,
+        left: Left { value, quotient: 0 },
+    }
+}
+
+// A zero finishes as it is. What is no finite value does not come here.
 pub fn step_value(kind: Kind, x: Operand, y: Unpacked, size: u32) -> Stepped
     requires { ⌜ StandsOperand x × Stands y × (sized size ≡ true) ⌝ }
     ensures { λ r. ⌜ r ≡ steppedOf (stepBy kind size (valueIn y .count) (valueOperand x)) ⌝ }
@@ -76,14 +94,5 @@ pub fn step_value(kind: Kind, x: Operand, y: Unpacked, size: u32) -> Stepped
         Operand::Nan => finished(x),
         Operand::Infinite(_) => finished(x),
         Operand::Zero(_) => finished(x),
-    }
-}
-
-fn finished(value: Operand) -> Stepped
-    ensures { λ r. ⌜ r ≡ record { done = true; left = record { value = value; quotient = 0 } } ⌝ }
-{
-    Stepped {
-        done: true,
-        left: Left { value, quotient: 0 },
     }
 }

@@ -1,8 +1,8 @@
 -- A dividend whose exponent is below the divisor's: what the code settles on is the remainder of the counts. Assumes nothing.
-use mathlib.Core.Path.{_≡_, refl, sym, ap, _∙_, subst}
+use mathlib.Core.Path.{_≡_, refl, sym, ap, _∙_}
 use mathlib.Core.Bool.{Bool, true, false, not, cond, _&&_}
-use Prim.Native.Nat.{ℕ, zero, suc, _+_, _-_, _*_, _/_, _%_, _^_, _≤_, _<_}
-use native.Mathlib.Nat.{mul-assoc, mul-comm, mul-right-comm, mod-eq-of-lt, div-eq-of-lt, lt-of-lt-of-le, le-trans, le-of-lt}
+use Prim.Native.Nat.{ℕ, zero, suc, _+_, _-_, _*_, _%_, _^_, _≤_, _<_}
+use native.Mathlib.Nat.{mul-assoc, mul-comm, mul-right-comm, mod-eq-of-lt, div-eq-of-lt, lt-of-lt-of-le, le-trans}
 use native.Mathlib.Omega.{arith}
 use borrow.Author.Tests.{le-ltb, ltb-true}
 use lib.Dec.{ltb}
@@ -103,7 +103,7 @@ module _ (s : ℤ) (neg : Bool) (n m : ℕ) (some : 0 < n) (dn : Digits 64 n) (m
       let w = lead-word m more in
       λ i. record { value = normal-operand s (not neg) (lead m - (lead n - lead m)) (size n - 1) (m - n) (omega arith) (missing next h) i; quotient = 1 }
 
-  nearest : (d : ℕ) → d ≡ size m - 1 - suc (size n - 1) → cond (neighbours (negsuc d) && ltb (lead m) (lead n)) taken stays ≡ leftOf s (finishBy Nearest m v)
+  nearest : (d : ℕ) → size n - 1 + suc d ≡ size m - 1 → cond (neighbours (negsuc d) && ltb (lead m) (lead n)) taken stays ≡ leftOf s (finishBy Nearest m v)
   nearest zero e =
       let p = size-pos n some in
       let next : size m ≡ size n + 1 = omega arith in
@@ -114,8 +114,8 @@ module _ (s : ℤ) (neg : Bool) (n m : ℕ) (some : 0 < n) (dn : Digits 64 n) (m
       go next false f = stays-is
   nearest (suc d) e = rw (le-ltb (suc d) 1 (omega arith)) stays-is ∙ ap reply (sym (up-is ∙ far (omega arith))) ∙ sym (reply-is Nearest)
 
-  pub below : (κ : Kind) (w : Value) → w .count ≡ m → belowOf κ (unpackedOf s (record { negative = neg; count = n })) (unpackedOf s w) (negsuc (size m - 1 - suc (size n - 1)))
-      ≡ leftOf s (finishBy κ m (record { negative = neg; count = n }))
+  pub below : (κ : Kind) (w : Value) (d : ℕ) → w .count ≡ m → size n - 1 + suc d ≡ size m - 1
+      → belowOf κ (unpackedOf s (record { negative = neg; count = n })) (unpackedOf s w) (negsuc d) ≡ leftOf s (finishBy κ m (record { negative = neg; count = n }))
   unfolding stays taken unpackedOf v
-  below Truncated w e = stays-is ∙ sym (reply-is Truncated)
-  below Nearest w e = rw e (nearest (size m - 1 - suc (size n - 1)) refl)
+  below Truncated w d c e = stays-is ∙ sym (reply-is Truncated)
+  below Nearest w d c e = rw c (nearest d e)

@@ -1,7 +1,7 @@
 -- The table of checks is right about the classes of its operands. Assumes nothing.
-use mathlib.Core.Path.{_≡_, refl, sym, ap, _∙_, subst}
-use mathlib.Core.Bool.{Bool, true, false, cond}
-use Prim.Native.Nat.{ℕ, zero, suc, _*_, _≤_, _<_}
+use mathlib.Core.Path.{_≡_, refl, sym, _∙_}
+use mathlib.Core.Bool.{false, cond}
+use Prim.Native.Nat.{ℕ, _<_}
 use native.Mathlib.Omega.{arith}
 use lib.Dec.{eqb}
 use lib.IntN.{ℤ}
@@ -9,7 +9,7 @@ use Rattle.digits.specs.Digits.{Digits}
 use Rattle.digits.proofs.Tests.{not-zero}
 use Rattle.definitions.specs.Class.{Value, Class, unsupported, nan, infinite, finite, gap}
 use Rattle.definitions.specs.Numbers.{numberOf, checks, first, dividing, accepted}
-use Rattle.definitions.specs.Division.{by, unbounded, finish, finishBy, divisorOf}
+use Rattle.definitions.specs.Division.{by, finish, finishBy}
 use Rattle.definitions.specs.Steps.{step, stepBy}
 use Rattle.definitions.specs.Answers.{refusalNumber}
 use Rattle.definitions.specs.declared.Kind.{Kind}
@@ -20,8 +20,7 @@ use Rattle.formats.specs.declared.operand.Operand.the-variants.{Unsupported, Na
 use Rattle.formats.specs.Operand.{operandOf, unpackedOf}
 use Rattle.formats.proofs.Lead.{zero-operand, some-operand, by-count}
 use Rattle.laws.proofs.Division.{finish-far}
-use Rattle.remainder.specs.Pair.{Unpacks}
-use Rattle.remainder.specs.Examined.{examinedOf, ReturnsDividend, Divides, Judged}
+use Rattle.remainder.specs.Examined.{examinedOf, Judged}
 
 -- the code's significands hold the digits of a class
 abbrev pub Fits64 : Class → Type 0

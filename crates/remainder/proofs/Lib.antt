@@ -1,4 +1,3 @@
-pub mod Gap
 pub mod Link
 pub mod Settle
 pub mod Below

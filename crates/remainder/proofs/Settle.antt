@@ -1,28 +1,22 @@
 -- What the code settles on is the remainder of the counts. Assumes nothing.
-use mathlib.Core.Path.{_≡_, refl, sym, ap, _∙_, subst}
-use mathlib.Core.Bool.{Bool, true, false, not, cond, _&&_, _||_}
-use Prim.Native.Nat.{ℕ, zero, suc, _+_, _-_, _*_, _/_, _%_, _^_, _≤_, _<_}
-use native.Mathlib.Nat.{mul-assoc, mul-pos, mod-lt, mod-eq-of-lt, div-eq-of-lt, lt-of-lt-of-le, lt-of-le-of-lt, le-of-lt, pos-of-ne-zero, two-pow-succ}
+use mathlib.Core.Path.{_≡_, refl, sym, ap, _∙_}
+use mathlib.Core.Bool.{Bool, true, false, not, cond}
+use Prim.Native.Nat.{ℕ, _+_, _-_, _*_, _/_, _%_, _^_, _<_}
+use native.Mathlib.Nat.{mul-pos, mod-lt, pos-of-ne-zero}
 use native.Mathlib.Omega.{arith}
-use borrow.Author.Tests.{lt-ltb, le-ltb, ltb-true, ltb-false}
-use lib.Dec.{ltb, eqb}
-use lib.IntN.{ℤ, pos, negsuc, _+ℤ_, _-ℤ_}
-use lib.Pow.{pow-add, pow-pos}
-use lib.Ieee.{size}
-use Rattle.digits.specs.Digits.{Digits}
-use Rattle.digits.proofs.Tests.{not-zero}
-use Rattle.digits.proofs.Common.{sub-scale, ltb-scale}
-use Rattle.digits.proofs.Size.{size-pos}
-use Rattle.definitions.specs.Class.{Value, finite}
-use Rattle.definitions.specs.Division.{Reply, roundsUp, finishBy}
+use lib.IntN.{ℤ, pos, _+ℤ_}
+use lib.Pow.{pow-pos}
+use Rattle.digits.proofs.Common.{sub-scale}
+use Rattle.definitions.specs.Class.{finite}
+use Rattle.definitions.specs.Division.{roundsUp, finishBy}
 use Rattle.definitions.specs.declared.Kind.{Kind}
 use Rattle.definitions.specs.declared.Kind.the-variants.{Truncated, Nearest}
 use Rattle.division.specs.Divided.{dividedOf}
-use Rattle.formats.specs.Operand.{operandOf, unpackedOf, normalOf}
+use Rattle.formats.specs.Operand.{operandOf, normalOf}
 use Rattle.formats.proofs.Normal.{normal-operand}
-use Rattle.laws.proofs.Division.{up-scale, rounds-up-once}
+use Rattle.laws.proofs.Division.{up-scale}
 use Rattle.remainder.specs.declared.pair.Left.{Left}
-use Rattle.remainder.specs.Pair.{leftOf, settledOf, belowOf}
+use Rattle.remainder.specs.Pair.{leftOf, settledOf}
 use Rattle.remainder.proofs.Link.{link-div, link-mod}
 
 -- the decision looks at the quotient's last digit only, which 32 bits keep

@@ -1,11 +1,9 @@
 -- What the code answers is what the definition reports, case by case of an examined pair. Assumes nothing.
 use mathlib.Core.Path.{_≡_, refl, sym, ap, _∙_, subst}
-use mathlib.Core.Bool.{Bool, true, false, cond}
-use Prim.Native.Nat.{ℕ, _+_, _-_, _*_, _%_, _^_, _≤_, _<_}
-use native.Mathlib.Nat.{le-trans}
+use Prim.Native.Nat.{ℕ, _-_, _%_, _^_, _≤_, _<_}
 use native.Mathlib.Omega.{arith}
 use lib.Dec.{lit≤, lit<}
-use lib.IntN.{ℤ, pos, _+ℤ_}
+use lib.IntN.{ℤ, pos}
 use lib.Ieee.{size}
 use lib.Signed.{mag}
 use Rattle.digits.specs.Digits.{Digits}
@@ -14,8 +12,8 @@ use Rattle.digits.proofs.Signed.{mag-add}
 use Rattle.definitions.specs.Class.{Value, Class, unsupported, nan, infinite, finite}
 use Rattle.definitions.specs.Format.{Format, Regular, Held, classOf, patternOf, reach, x87}
 use Rattle.definitions.specs.Numbers.{numberOf, dividing, accepted}
-use Rattle.definitions.specs.Division.{Reply, by, finish, finishBy, unbounded, dividendOf, divisorOf}
-use Rattle.definitions.specs.Remainder.{Remainder, remainderOf, remainder, remainderReport, refusedValue, shown}
+use Rattle.definitions.specs.Division.{Reply, finish, finishBy, unbounded, dividendOf, divisorOf}
+use Rattle.definitions.specs.Remainder.{remainderOf, remainder, refusedValue, shown}
 use Rattle.definitions.specs.Answers.{refusalNumber}
 use Rattle.definitions.specs.declared.Kind.{Kind}
 use Rattle.definitions.specs.declared.Refusal.{Refusal}
@@ -24,7 +22,7 @@ use Rattle.formats.specs.declared.operand.Unpacked.{Unpacked}
 use Rattle.formats.specs.Operand.{operandOf, unpackedOf, classIn, PackableOperand, formatOf, Sound}
 use Rattle.formats.specs.declared.interchange.Shape.{Shape}
 use Rattle.formats.proofs.Bounds.{smallest-small}
-use Rattle.formats.proofs.Lead.{packable, packable-operand, class-back, lead-top, lead-word}
+use Rattle.formats.proofs.Lead.{packable-operand, class-back, lead-top, lead-word}
 use Rattle.laws.proofs.Division.{finish-held}
 use Rattle.laws.proofs.Regular.{regular80}
 use Rattle.laws.proofs.RoundTrip.{read-held}
@@ -75,31 +73,10 @@ module _ (f : Format) (ok : Within f) where
   pub pattern-is : (v : Value) (o : Operand) → Held f (v .count) → o ≡ operandOf (f .smallest) (finite v) → patternOf f (classIn (f .smallest) o) ≡ patternOf f (finite v)
   pattern-is v o h e = rw e (ap (patternOf f) (class-back (f .smallest) v (held-fits (v .count) h)))
 
-  module _ (κ : Kind) (x y : ℕ) where
-    pub refused : (w : Refusal) → numberOf (dividing (classOf f x) (classOf f y)) ≡ refusalNumber w
-        → record { number = refusalNumber w; value = refusedValue f; quotient = 0 } ≡ remainder f κ x y
-    unfolding remainder remainderOf
-    refused w e = rw (e, refusal-refuses w)
-
-    -- an accepted pair: its reply, written down
-    answered : (r : Reply) → numberOf (dividing (classOf f x) (classOf f y)) ≡ 0 → finish κ (divisorOf (classOf f y)) (dividendOf (classOf f x)) ≡ r
-        → record { number = 0; value = patternOf f (finite (r .value)); quotient = shown (r .whole) } ≡ remainder f κ x y
-    unfolding remainder remainderOf
-    answered r e q = rw (e, q)
-
-    -- the dividend itself
-    pub returned : (o : Operand) → ReturnsDividend (f .smallest) (classOf f x) (classOf f y) o
-        → record { number = 0; value = patternOf f (classIn (f .smallest) o); quotient = 0 } ≡ remainder f κ x y
-    unfolding finish
-    returned o j =
-        let h = read-held f (ok .regular) x (j .value) (j .dividend) in
-        ap (λ (p : ℕ). record { number = 0; value = p; quotient = 0 }) (pattern-is (j .value) o h (j .operand))
-        ∙ answered (finish κ unbounded (j .value)) (j .accepted) (ap (λ (c : Class). finish κ (divisorOf (classOf f y)) (dividendOf c)) (j .dividend) ∙ j .nothing κ)
-
+  module _ (x y : ℕ) where
     pub returned-packs : (o : Operand) → ReturnsDividend (f .smallest) (classOf f x) (classOf f y) o → PackableOperand (f .smallest) (reach f) o
     returned-packs o j = packs (j .value) o (read-held f (ok .regular) x (j .value) (j .dividend)) (j .operand)
 
-    -- two values divided
     module _ (a b : Unpacked) (j : Divides (f .smallest) (classOf f x) (classOf f y) a b) where
       dividend-held : Held f (j .value .count)
       dividend-held = read-held f (ok .regular) x (j .value) (j .dividend-is)
@@ -110,27 +87,50 @@ module _ (f : Format) (ok : Within f) where
       pub both-ready : Ready a × Ready b
       both-ready = (ready (j .value) a dividend-held (j .dividend), ready (j .divisor) b divisor-held (j .by-divisor))
 
-      reply : Reply
-      reply = finishBy κ (j .divisor .count) (j .value)
+    module _ (κ : Kind) where
+      pub refused : (w : Refusal) → numberOf (dividing (classOf f x) (classOf f y)) ≡ refusalNumber w
+          → record { number = refusalNumber w; value = refusedValue f; quotient = 0 } ≡ remainder f κ x y
+      unfolding remainder remainderOf
+      refused w e = rw (e, refusal-refuses w)
 
-      reply-held : Held f (reply .value .count)
-      unfolding reply
-      reply-held = finish-held f κ (j .divisor .count) (j .value) (j .by-divisor .some) divisor-held dividend-held
+      -- an accepted pair: its reply, written down
+      answered : (r : Reply) → numberOf (dividing (classOf f x) (classOf f y)) ≡ 0 → finish κ (divisorOf (classOf f y)) (dividendOf (classOf f x)) ≡ r
+          → record { number = 0; value = patternOf f (finite (r .value)); quotient = shown (r .whole) } ≡ remainder f κ x y
+      unfolding remainder remainderOf
+      answered r e q = rw (e, q)
 
-      module _ (l : Left) (told : (s : ℤ) (v w : Value) → Unpacks s v a → Unpacks s w b → l ≡ leftOf s (finishBy κ (w .count) v)) where
-        left-is : l ≡ leftOf (f .smallest) reply
+      -- the dividend itself
+      pub returned : (o : Operand) → ReturnsDividend (f .smallest) (classOf f x) (classOf f y) o
+          → record { number = 0; value = patternOf f (classIn (f .smallest) o); quotient = 0 } ≡ remainder f κ x y
+      unfolding finish
+      returned o j =
+          let h = read-held f (ok .regular) x (j .value) (j .dividend) in
+          ap (λ (p : ℕ). record { number = 0; value = p; quotient = 0 }) (pattern-is (j .value) o h (j .operand))
+          ∙ answered (finish κ unbounded (j .value)) (j .accepted) (ap (λ (c : Class). finish κ (divisorOf (classOf f y)) (dividendOf c)) (j .dividend) ∙ j .nothing κ)
+
+      -- two values divided
+      module _ (a b : Unpacked) (j : Divides (f .smallest) (classOf f x) (classOf f y) a b) where
+        reply : Reply
+        reply = finishBy κ (j .divisor .count) (j .value)
+
+        reply-held : Held f (reply .value .count)
         unfolding reply
-        left-is = told (f .smallest) (j .value) (j .divisor) (j .dividend) (j .by-divisor)
+        reply-held = finish-held f κ (j .divisor .count) (j .value) (j .by-divisor .some) (divisor-held a b j) (dividend-held a b j)
 
-        pub divided-packs : PackableOperand (f .smallest) (reach f) (l .value)
-        divided-packs = packs (reply .value) (l .value) reply-held (ap (λ (z : Left). z .value) left-is)
+        module _ (l : Left) (told : (s : ℤ) (v w : Value) → Unpacks s v a → Unpacks s w b → l ≡ leftOf s (finishBy κ (w .count) v)) where
+          left-is : l ≡ leftOf (f .smallest) reply
+          unfolding reply
+          left-is = told (f .smallest) (j .value) (j .divisor) (j .dividend) (j .by-divisor)
 
-        pub divided : record { number = 0; value = patternOf f (classIn (f .smallest) (l .value)); quotient = l .quotient % 8 } ≡ remainder f κ x y
-        unfolding reply finish
-        divided =
-            let q : l .quotient % 8 ≡ shown (reply .whole) = ap (λ (z : Left). z .quotient % 8) left-is ∙ omega arith in
-            (λ i. record { number = 0; value = pattern-is (reply .value) (l .value) reply-held (ap (λ (z : Left). z .value) left-is) i; quotient = q i })
-            ∙ answered reply (j .accepted) (λ i. finish κ (divisorOf (j .divisor-is i)) (dividendOf (j .dividend-is i)))
+          pub divided-packs : PackableOperand (f .smallest) (reach f) (l .value)
+          divided-packs = packs (reply .value) (l .value) reply-held (ap (λ (z : Left). z .value) left-is)
+
+          pub divided : record { number = 0; value = patternOf f (classIn (f .smallest) (l .value)); quotient = l .quotient % 8 } ≡ remainder f κ x y
+          unfolding reply finish
+          divided =
+              let q : l .quotient % 8 ≡ shown (reply .whole) = ap (λ (z : Left). z .quotient % 8) left-is ∙ omega arith in
+              (λ i. record { number = 0; value = pattern-is (reply .value) (l .value) reply-held (ap (λ (z : Left). z .value) left-is) i; quotient = q i })
+              ∙ answered reply (j .accepted) (λ i. finish κ (divisorOf (j .divisor-is i)) (dividendOf (j .dividend-is i)))
 
 pub within-shape : (h : Shape) → Sound h → Within (formatOf h)
 within-shape h ok =

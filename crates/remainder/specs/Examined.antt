@@ -4,7 +4,7 @@ use mathlib.Core.Path.{_≡_}
 use lib.IntN.{ℤ}
 use Rattle.definitions.specs.Class.{Value, Class, finite}
 use Rattle.definitions.specs.Numbers.{numberOf, dividing}
-use Rattle.definitions.specs.Division.{Divisor, by, finish, unbounded, dividendOf, divisorOf}
+use Rattle.definitions.specs.Division.{finish, unbounded, divisorOf}
 use Rattle.definitions.specs.Steps.{step}
 use Rattle.definitions.specs.Answers.{refusalNumber}
 use Rattle.definitions.specs.declared.Kind.{Kind}

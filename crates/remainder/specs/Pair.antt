@@ -1,9 +1,9 @@
 -- How the code holds a pair of operands and what is left of one. Nothing to believe: these only name the code's own values.
 use Prim.Native.Nat.{ℕ, _+_, _-_, _%_, _^_, _≤_, _<_}
 use mathlib.Core.Path.{_≡_}
-use mathlib.Core.Bool.{Bool, true, false, not, cond, _&&_}
+use mathlib.Core.Bool.{Bool, not, cond, _&&_}
 use lib.Dec.{ltb}
-use lib.IntN.{ℤ, pos, negsuc}
+use lib.IntN.{ℤ, negsuc}
 use lib.Signed.{mag, ltZ}
 use Rattle.digits.specs.Digits.{Digits}
 use Rattle.definitions.specs.Class.{Value, finite}

@@ -1,9 +1,13 @@
 // The checks on two operands, before anything is divided.
+use definitions::Extended;
 use definitions::Refusal;
+use formats::extended::X87;
 use formats::operand::Operand;
 use formats::operand::Unpacked;
 ghost use mathlib.Core.Path.{_≡_};
-ghost use Rattle.remainder.specs.Examined.{examinedOf};
+ghost use Rattle.definitions.specs.Format.{x87, classOf};
+ghost use Rattle.definitions.specs.Answers.{joined};
+ghost use Rattle.remainder.specs.Examined.{examinedOf, Judged};
 
 // What the checks make of a pair: a refusal; the dividend, to be returned as it is, since it is zero or the divisor infinite; or two
 // finite values to divide, neither of them zero.
@@ -48,4 +52,13 @@ pub fn examine(x: Operand, y: Operand) -> Examined
             Operand::Finite(b) => Examined::Pair(a, b),
         },
     }
+}
+
+// The same of two x87 patterns.
+pub fn examine80(x: Extended, y: Extended) -> Examined
+    ensures { λ r. ⌜ Judged (x87 .smallest) (classOf x87 (joined x)) (classOf x87 (joined y)) r ⌝ }
+{
+    let dividend = X87::of_pattern(x).operand;
+    let divisor = X87::of_pattern(y).operand;
+    examine(dividend, divisor)
 }

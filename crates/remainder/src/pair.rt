@@ -7,10 +7,9 @@ use formats::operand::Operand;
 use formats::operand::Unpacked;
 use formats::operand::normalise;
 ghost use mathlib.Core.Path.{_≡_};
-ghost use mathlib.Core.Bool.{Bool, cond, not};
 ghost use Prim.Native.Nat.{_<_, _^_};
 ghost use lib.IntN.{ℤ, _-ℤ_};
-ghost use lib.Signed.{mag, ltZ};
+ghost use lib.Signed.{mag};
 ghost use Rattle.definitions.specs.Class.{Value};
 ghost use Rattle.definitions.specs.Division.{roundsUp, finishBy};
 ghost use Rattle.remainder.specs.Pair.{Ready, Unpacks, leftOf, settledOf, belowOf};
@@ -29,7 +28,8 @@ pub fn gap(x: Unpacked, y: Unpacked) -> i32
     x.exponent - y.exponent
 }
 
-// Whether a quotient with this left-over goes up: past a half, or at a half where the quotient is odd.
+// Whether a quotient with this left-over goes up: past a half, or at a half where the quotient is odd. Twice the left-over need not fit
+// a word, so it stands on both sides of the comparison.
 fn rounds_up(kind: Kind, quotient: u32, remainder: u64, divisor: u64) -> bool
     requires { ⌜ remainder < divisor ⌝ }
     ensures { λ r. ⌜ r ≡ roundsUp kind quotient remainder divisor ⌝ }
@@ -40,9 +40,9 @@ fn rounds_up(kind: Kind, quotient: u32, remainder: u64, divisor: u64) -> bool
     }
 }
 
-// A left-over, in units of the divisor's last bit, as the remainder of the kind.
-fn settle(kind: Kind, negative: bool, left: Divided, divisor: u64, exponent: i32) -> Left
-    requires { ⌜ (left .remainder < divisor) × (mag exponent < 2 ^ 17) ⌝ }
+// What a division left, as the remainder of the kind. `exponent` is that of bit 63, in the divisor and in what was left.
+pub fn settle(kind: Kind, negative: bool, left: Divided, divisor: u64, exponent: i32) -> Left
+    requires { ⌜ (left .remainder < divisor) × (mag exponent < 2 ^ 20) ⌝ }
     ensures { λ r. ⌜ r ≡ settledOf kind negative left divisor exponent ⌝ }
 {
     let quotient = left.quotient;

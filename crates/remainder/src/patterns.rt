@@ -1,6 +1,7 @@
 // The remainder of two patterns, of every bit pattern: take apart, divide, put together.
 use crate::examine::Examined;
 use crate::examine::examine;
+use crate::examine::examine80;
 use crate::pair::finish_pair;
 use definitions::Extended;
 use definitions::Kind;
@@ -66,9 +67,7 @@ pub fn remainder64(x: u64, y: u64, kind: Kind) -> RemainderAnswer
 pub fn remainder80(x: Extended, y: Extended, kind: Kind) -> RemainderAnswer80
     ensures { λ r. ⌜ remainderTold80 r ≡ remainder x87 kind (joined x) (joined y) ⌝ }
 {
-    let dividend = X87::of_pattern(x).operand;
-    let divisor = X87::of_pattern(y).operand;
-    match examine(dividend, divisor) {
+    match examine80(x, y) {
         Examined::Refused(why) => RemainderAnswer80::Refused(why),
         Examined::Returned(operand) => RemainderAnswer80::Finished {
             value: X87 { operand }.pattern(),

@@ -1,6 +1,5 @@
 -- `returned_run` meets its contract: by whether the budget is spent at once. Assumes nothing.
 use borrow.Author.Tests.{eq-eqb, ne-eqb}
-use borrow.Author.Needs.{needs}
 use Rattle.partial.proofs.run.returned_run.Statement.{statement}
 use Rattle.partial.proofs.run.returned_run.Tie as tie
 

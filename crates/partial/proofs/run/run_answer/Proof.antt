@@ -1,5 +1,5 @@
 -- `run_answer` meets its contract: the number says whether the run finished. Assumes nothing.
-use mathlib.Core.Path.{_≡_, ap, _∙_}
+use mathlib.Core.Path.{ap}
 use Prim.Native.Nat.{ℕ, _%_}
 use Rattle.definitions.specs.Answers.{runTold}
 use borrow.Author.Needs.{needs}

@@ -1,6 +1,6 @@
 -- `run_pair` meets its contract: the loop's invariant is the run itself, with as many steps as the loop has taken. Assumes nothing.
-use mathlib.Core.Path.{_≡_, refl, sym, ap, _∙_, subst}
-use Prim.Native.Nat.{ℕ, _+_, _-_, _≤_, _<_}
+use mathlib.Core.Path.{_≡_, ap, _∙_}
+use Prim.Native.Nat.{ℕ, _-_, _≤_}
 use native.Mathlib.Omega.{arith}
 use Rattle.definitions.specs.Division.{by}
 use Rattle.definitions.specs.Steps.{run}

@@ -1,48 +1,18 @@
--- `step80` meets its contract: the size, then the case of an examined pair. Assumes nothing.
-use mathlib.Core.Path.{_≡_, refl, sym, ap, _∙_, subst}
-use mathlib.Core.Bool.{true, false}
-use Prim.Native.Nat.{ℕ, _%_}
-use native.Mathlib.Omega.{arith}
-use borrow.Author.Tests.{le-leb, lt-leb}
-use lib.IntN.{negsuc}
-use Rattle.definitions.specs.Format.{classOf, x87}
-use Rattle.definitions.specs.Reports.{sized}
-use Rattle.remainder.specs.Examined.{Judged}
-use Rattle.remainder.proofs.Told.{within-x87, examined, returned-packs}
+-- `step80` meets its contract: the case of an examined pair decides, and each is a law of its own. Assumes nothing.
+use mathlib.Core.Path.{ap, _∙_}
+use Rattle.definitions.specs.Format.{x87}
 use Rattle.definitions.specs.Answers.{stepTold, joined}
 use Rattle.formats.specs.Operand.{classIn}
-use Rattle.partial.proofs.Reported.{step-missized, step-refused, step-returned, step-divided, step-packs, stands-dividend, stands-divisor}
+use Rattle.remainder.proofs.Told.{within-x87, returned-packs}
+use Rattle.partial.specs.Stands.{stepWritten}
+use Rattle.partial.specs.declared.value.Stepped.{Stepped}
+use Rattle.partial.proofs.Reported.{step-refused, step-returned, step-divided, step-packs, stands-dividend, stands-divisor}
 use borrow.Author.Needs.{needs}
 use Rattle.partial.proofs.step.step80.Statement.{statement}
 use Rattle.partial.proofs.step.step80.Tie as tie
 
-returns : tie.Need-returns
-unfolding stepTold
-returns c = let a = c .before .args in step-missized (a .kind) (a .size) (joined (a .x)) (joined (a .y)) (simp (lt-leb _ _ (c .if1 .taken)))
-
-returns-2 : tie.Need-returns-2
-unfolding stepTold
-returns-2 c = let a = c .before .before .args in step-missized (a .kind) (a .size) (joined (a .x)) (joined (a .y)) (simp (le-leb _ _ (c .before .if1 .left), lt-leb _ _ (c .if2 .taken)))
-
--- what the checks made of the pair, in the case that the code is in
-judged-as : (e : tie.After-examine) (o : _) → e .examine .result ≡ o
-    → Judged (negsuc 16444) (classOf x87 (joined (e .before .before .before .before .before .args .x))) (classOf x87 (joined (e .before .before .before .before .before .args .y))) o
-judged-as e o q =
-    let a = e .before .before .before .before .before .args in
-    subst (Judged (negsuc 16444) (classOf x87 (joined (a .x))) (classOf x87 (joined (a .y)))) q
-    (examined x87 within-x87 (joined (a .x)) (joined (a .y)) _ _ (e .examine .result) (e .before .before .of-pattern .ensures) (e .before .of-pattern2 .ensures) (e .examine .ensures))
-
-right-size : (e : tie.After-examine) → sized (e .before .before .before .before .before .args .size) ≡ true
-right-size e = simp (le-leb _ _ (e .before .before .before .before .if1 .left), le-leb _ _ (e .before .before .before .if2 .left))
-
-of-pattern-requires : tie.Need-of-pattern-requires
-of-pattern-requires c κs = search needs
-
-of-pattern-requires-2 : tie.Need-of-pattern-requires-2
-of-pattern-requires-2 c κs = search needs
-
-examine-requires : tie.Need-examine-requires
-examine-requires c κs = search needs
+examine-sized-requires : tie.Need-examine-sized-requires
+examine-sized-requires c κs = search needs
 
 enum-known-why : tie.Need-enum-known-why
 enum-known-why c = search needs
@@ -50,11 +20,15 @@ enum-known-why c = search needs
 enum-known-operand : tie.Need-enum-known-operand
 enum-known-operand c = search needs
 
-pattern-requires : tie.Need-pattern-requires
-pattern-requires c κs =
-    let e = c .before .before .before in
-    let a = e .before .before .before .before .before .args in
-    returned-packs x87 within-x87 (a .kind) (joined (a .x)) (joined (a .y)) _ (judged-as e _ (c .before .operand .given .1))
+finished-requires : tie.Need-finished-requires
+finished-requires c κs = search needs
+
+step-answer-requires : tie.Need-step-answer-requires
+step-answer-requires c κs =
+    let e = c .before .before .before .before in
+    let a = e .before .args in
+    let j = rw (c .before .before .operand .given .1) at (e .examine-sized .ensures) in
+    rw (c .finished .ensures) (returned-packs x87 within-x87 (joined (a .x)) (joined (a .y)) _ (j .1))
 
 enum-known-a : tie.Need-enum-known-a
 enum-known-a c = search needs
@@ -62,55 +36,54 @@ enum-known-a c = search needs
 step-value-requires : tie.Need-step-value-requires
 step-value-requires c κs =
     let e = c .before .before .before in
-    let a = e .before .before .before .before .before .args in
-    let j = judged-as e _ (c .before .a .given .1) in
-    (stands-dividend (joined (a .x)) (joined (a .y)) _ _ j, stands-divisor (joined (a .x)) (joined (a .y)) _ _ j, right-size e)
+    let a = e .before .args in
+    let j = rw (c .before .a .given .1) at (e .examine-sized .ensures) in
+    (stands-dividend (joined (a .x)) (joined (a .y)) _ _ (j .1), stands-divisor (joined (a .x)) (joined (a .y)) _ _ (j .1), j .0)
 
-step-answer-requires : tie.Need-step-answer-requires
+step-answer-requires-2 : tie.Need-step-answer-requires-2
 unfolding classIn
-step-answer-requires c κs =
+step-answer-requires-2 c κs =
     let e = c .before .before .before .before in
-    let a = e .before .before .before .before .before .args in
-    step-packs (joined (a .x)) (joined (a .y)) _ _ (judged-as e _ (c .before .before .a .given .1)) (a .kind) (a .size) (c .step-value .result) (c .step-value .ensures)
+    let a = e .before .args in
+    let j = rw (c .before .before .a .given .1) at (e .examine-sized .ensures) in
+    step-packs (joined (a .x)) (joined (a .y)) _ _ (j .1) (a .kind) (a .size) (c .step-value .result) (c .step-value .ensures)
 
-returns-3 : tie.Need-returns-3
+returns : tie.Need-returns
 unfolding stepTold
-returns-3 c =
+returns c =
     let e = c .before .before .before in
-    let a = e .before .before .before .before .before .args in
-    step-refused (a .kind) (a .size) (joined (a .x)) (joined (a .y)) (right-size e) (c .before .why .given .0 .0) (judged-as e _ (c .before .why .given .1))
+    let a = e .before .args in
+    step-refused (a .kind) (a .size) (joined (a .x)) (joined (a .y)) (c .before .why .given .0 .0) (rw (c .before .why .given .1) at (e .examine-sized .ensures))
 
-returns-4 : tie.Need-returns-4
-unfolding stepTold
-returns-4 c =
-    let e = c .before .before .before .before in
-    let a = e .before .before .before .before .before .args in
-    ap (λ (p : ℕ). record { number = 0; value = p; quotient = 0; steps = 1 }) (c .pattern .ensures)
-    ∙ step-returned (a .kind) (a .size) (joined (a .x)) (joined (a .y)) (right-size e) _ (judged-as e _ (c .before .before .operand .given .1))
-
-returns-5 : tie.Need-returns-5
-unfolding classIn
-returns-5 c =
+returns-2 : tie.Need-returns-2
+returns-2 c =
     let v = c .before in
     let e = v .before .before .before .before in
-    let a = e .before .before .before .before .before .args in
-    c .step-answer .ensures ∙ step-divided (joined (a .x)) (joined (a .y)) _ _ (judged-as e _ (v .before .before .a .given .1)) (a .kind) (a .size) (v .step-value .result) (v .step-value .ensures) (right-size e)
+    let a = e .before .args in
+    let j = rw (v .before .before .operand .given .1) at (e .examine-sized .ensures) in
+    c .step-answer .ensures ∙ ap (λ (t : Stepped). stepWritten t) (v .finished .ensures) ∙ step-returned (a .kind) (a .size) (joined (a .x)) (joined (a .y)) (j .0) _ (j .1)
+
+returns-3 : tie.Need-returns-3
+unfolding classIn
+returns-3 c =
+    let v = c .before in
+    let e = v .before .before .before .before in
+    let a = e .before .args in
+    let j = rw (v .before .before .a .given .1) at (e .examine-sized .ensures) in
+    c .step-answer2 .ensures ∙ step-divided (joined (a .x)) (joined (a .y)) _ _ (j .1) (a .kind) (a .size) (v .step-value .result) (v .step-value .ensures) (j .0)
 
 pub step80-spec : {M : Type 1} → statement M
 step80-spec =
     tie.close
     (tie.spec
-    returns
-    returns-2
-    of-pattern-requires
-    of-pattern-requires-2
-    examine-requires
+    examine-sized-requires
     enum-known-why
     enum-known-operand
-    pattern-requires
+    finished-requires
+    step-answer-requires
     enum-known-a
     step-value-requires
-    step-answer-requires
-    returns-3
-    returns-4
-    returns-5)
+    step-answer-requires-2
+    returns
+    returns-2
+    returns-3)

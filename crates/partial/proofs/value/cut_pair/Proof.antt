@@ -1,23 +1,23 @@
--- `cut_pair` meets its contract: the engine at `size` places, in the place that is left. Assumes nothing.
-use mathlib.Core.Path.{_≡_, refl, sym, ap, _∙_}
-use Prim.Native.Nat.{ℕ, _-_, _*_, _/_, _%_, _^_, _<_, _≤_}
-use native.Mathlib.Nat.{lt-of-lt-of-le}
+-- `cut_pair` meets its contract: the division to `size` places, settled in the place that is left. Assumes nothing.
+use mathlib.Core.Path.{_≡_, ap, _∙_}
+use Prim.Native.Nat.{ℕ, _-_, _*_, _%_, _^_, _≤_}
+use native.Mathlib.Nat.{lt-of-lt-of-le, mod-lt}
 use native.Mathlib.Omega.{arith}
-use lib.IntN.{ℤ, pos, natAbs, _-ℤ_}
+use lib.IntN.{pos, natAbs, _-ℤ_}
 use lib.Pow.{pow-pos}
-use lib.Signed.{mag, natAbs-le}
+use lib.Signed.{natAbs-le}
 use mir.Syntax.{w32}
 use mir.Val.{toZ, ofZ}
 use mir.ValLaws.{toZ-ofZ, toZ-pos}
 use Rattle.chains.proofs.Step.{sized-bounds}
 use Rattle.digits.proofs.Signed.{small-back, sub-fits, sub-is, mag-sub}
-use Rattle.division.specs.declared.Divided.{Divided}
-use Rattle.formats.specs.Operand.{normalOf}
-use Rattle.remainder.proofs.TwoOperands.{gap-small}
-use Rattle.remainder.specs.Pair.{Ready}
+use Rattle.definitions.specs.declared.Kind.the-variants.{Truncated}
+use Rattle.division.specs.Divided.{dividedOf}
+use Rattle.remainder.proofs.TwoOperands.{not-negative}
+use Rattle.remainder.specs.Pair.{Ready, settledOf}
 use Rattle.remainder.specs.declared.pair.Left.{Left}
 use Rattle.partial.proofs.Standing.{stands-ready}
-use Rattle.partial.proofs.Pairs.{at-least, cut-pair-is, not-near}
+use Rattle.partial.proofs.Pairs.{at-least, cut-pair-is}
 use borrow.Author.Needs.{needs}
 use Rattle.partial.proofs.value.cut_pair.Statement.{statement}
 use Rattle.partial.proofs.value.cut_pair.Tie as tie
@@ -51,21 +51,23 @@ module _ (s : tie.Start) where
 divide-requires : tie.Need-divide-requires
 divide-requires c κs = lt-of-lt-of-le (pow-pos 63) (y-ready c .top)
 
-cast-normalise : tie.Need-cast-normalise
-cast-normalise c = record { sfits = omega (arith, small (c .before)) }
+cast-settle : tie.Need-cast-settle
+cast-settle c = record { sfits = omega (arith, small (c .before)) }
 
-sub-normalise : tie.Need-sub-normalise
-sub-normalise c =
+sub-settle : tie.Need-sub-settle
+sub-settle c =
     let s = c .before .before .before in
     sub-fits (s .args .x .exponent) (pos (s .args .size)) _ _ (exponent-back s) (size-back s) (omega (arith, x-ready s .small)) (omega (arith, small s))
 
-normalise-requires : tie.Need-normalise-requires
-normalise-requires c κs =
-    let s = c .before .before .before in
-    rw (lower s) (omega (arith, mag-sub (s .args .x .exponent) (pos (s .args .size)), x-ready s .small, small s))
+settle-requires : tie.Need-settle-requires
+settle-requires c κs =
+    let s = c .before .before .before in (
+      rw (c .before .before .divide .ensures) (mod-lt _ (lt-of-lt-of-le (pow-pos 63) (y-ready s .top))),
+      rw (lower s) (omega (arith, mag-sub (s .args .x .exponent) (pos (s .args .size)), x-ready s .small, small s)),
+    )
 
 cast-raised : tie.Need-cast-raised
-cast-raised c = let s = c .before .before .before .before in rw (gap-back s) (not-near (s .args .d) (s .pre .4), record { fits = omega (arith, natAbs-le (s .args .d) {H = 2 ^ 31} (s .fits .d .sfits)) })
+cast-raised c = let s = c .before .before .before .before in rw (gap-back s) (not-negative 64 (s .args .d) (s .pre .4), record { fits = omega (arith, natAbs-le (s .args .d) {H = 2 ^ 31} (s .fits .d .sfits)) })
 
 sub-raised : tie.Need-sub-raised
 sub-raised c = let s = c .before .before .before .before in rw (gap-back s) (omega (arith, places s, small s))
@@ -75,14 +77,14 @@ raised-requires c κs = search needs
 
 returns : tie.Need-returns
 returns c =
-    let n = c .before in
-    let e = n .before .before .before in
+    let v = c .before in
+    let e = v .before .before .before in
     let s = e .before in
     let a = s .args in
-    let q = e .divide .result in
-    let part : c .raised .result ≡ q .quotient * 2 ^ (natAbs (a .d) - a .size) % 2 ^ 32 = rw (gap-back s) at (c .raised .ensures) in
-    (λ i. record { value = (n .normalise .ensures ∙ ap (normalOf (a .x .negative) (q .remainder)) (lower s)) i; quotient = part i })
-    ∙ ap (λ (z : Divided). record { value = normalOf (a .x .negative) (z .remainder) (a .x .exponent -ℤ pos (a .size)); quotient = z .quotient * 2 ^ (natAbs (a .d) - a .size) % 2 ^ 32 }) (e .divide .ensures)
+    let part : c .raised .result ≡ v .settle .result .quotient * 2 ^ (natAbs (a .d) - a .size) % 2 ^ 32 = rw (gap-back s) at (c .raised .ensures) in
+    let left : v .settle .result ≡ settledOf Truncated (a .x .negative) (dividedOf (a .x .significand) (a .y .significand) (a .size)) (a .y .significand) (a .x .exponent -ℤ pos (a .size)) =
+    v .settle .ensures ∙ (λ i. settledOf Truncated (a .x .negative) (e .divide .ensures i) (a .y .significand) (lower s i)) in
+    (λ i. record { value = left i .value; quotient = (part ∙ ap (λ (l : Left). l .quotient * 2 ^ (natAbs (a .d) - a .size) % 2 ^ 32) left) i })
     ∙ cut-pair-is (a .x) (a .y) (s .pre .0) (s .pre .1) (a .d) (s .pre .3) (s .pre .4) (a .size) (s .pre .2)
 
 pub cut-pair-spec : {M : Type 1} → statement M
@@ -90,9 +92,9 @@ cut-pair-spec =
     tie.close
     (tie.spec
     divide-requires
-    cast-normalise
-    sub-normalise
-    normalise-requires
+    cast-settle
+    sub-settle
+    settle-requires
     cast-raised
     sub-raised
     raised-requires

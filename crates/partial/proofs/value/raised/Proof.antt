@@ -1,9 +1,9 @@
 -- `raised` meets its contract: 32 places or more leave no low bit. Assumes nothing.
-use mathlib.Core.Path.{_≡_, sym, ap, _∙_}
-use Prim.Native.Nat.{ℕ, _+_, _-_, _*_, _%_, _^_, _≤_, _<_}
-use native.Mathlib.Nat.{mul-mod-left, mul-le-mul, mod-eq-zero-of-dvd, dvd-trans, dvd-mul-left}
+use mathlib.Core.Path.{sym}
+use Prim.Native.Nat.{_-_, _*_, _^_, _≤_}
+use native.Mathlib.Nat.{mul-le-mul, mod-eq-zero-of-dvd, dvd-trans, dvd-mul-left}
 use native.Mathlib.Omega.{arith}
-use lib.Pow.{pow-add, pow-mono, pow-lt}
+use lib.Pow.{pow-mono}
 use Rattle.digits.proofs.Digits.{pow-dvd}
 use borrow.Author.Needs.{needs}
 use Rattle.partial.proofs.value.raised.Statement.{statement}

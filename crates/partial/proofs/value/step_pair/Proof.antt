@@ -1,10 +1,10 @@
 -- `step_pair` meets its contract: the gap decides between the finishing and the partial step. Assumes nothing.
-use mathlib.Core.Path.{_≡_, refl, sym, ap, _∙_}
-use mathlib.Core.Bool.{true, false}
+use mathlib.Core.Path.{_≡_}
+use mathlib.Core.Bool.{false}
 use Prim.Native.Nat.{_<_, _^_}
 use native.Mathlib.Omega.{arith}
-use lib.IntN.{ℤ, pos, natAbs, _-ℤ_}
-use lib.Signed.{ltZ, mag}
+use lib.Signed.{mag, ltZ}
+use lib.IntN.{pos}
 use mir.Syntax.{w32}
 use mir.Val.{toZ, ofZ}
 use Rattle.digits.proofs.Signed.{small-back}
@@ -13,7 +13,6 @@ use Rattle.remainder.proofs.TwoOperands.{gap-small}
 use Rattle.partial.specs.Stands.{valueIn}
 use Rattle.partial.proofs.Standing.{stands-ready}
 use Rattle.partial.proofs.Pairs.{near-step, far-step}
-use borrow.Author.Needs.{needs}
 use Rattle.partial.proofs.value.step_pair.Statement.{statement}
 use Rattle.partial.proofs.value.step_pair.Tie as tie
 
@@ -32,20 +31,22 @@ finish-pair-requires c κs = let s = c .before .before in (stands-ready (s .args
 
 cut-pair-requires : tie.Need-cut-pair-requires
 cut-pair-requires c κs =
-    let s = c .before .before in
-    rw (back (c .before)) (s .pre .0, s .pre .1, s .pre .2, c .before .gap .ensures, rw (back (c .before)) at (c .if1 .left))
+    let g = c .before in
+    let s = g .before in
+    let far : ltZ (g .gap .result) (pos 64) ≡ false = rw (back g) at (c .if1 .left) in
+    rw (back g) (s .pre .0, s .pre .1, s .pre .2, g .gap .ensures, far)
 
 returns : tie.Need-returns
 returns c =
-    let s = c .before .before .before in
-    near-step (s .args .x) (s .args .y) (s .pre .0) (s .pre .1) (c .before .before .gap .result) (c .before .before .gap .ensures) (s .args .kind) (s .args .size) (c .finish-pair .result)
-    (rw (back (c .before .before)) at (c .before .if1 .taken))
+    let g = c .before .before in
+    let s = g .before in
+    near-step (s .args .x) (s .args .y) (s .pre .0) (s .pre .1) (g .gap .result) (g .gap .ensures) (s .args .kind) (s .args .size) (c .finish-pair .result) (rw (back g) at (c .before .if1 .taken))
     (c .finish-pair .ensures (x87 .smallest) (valueIn (s .args .x)) (valueIn (s .args .y)) (s .pre .0 .unpacks) (s .pre .1 .unpacks))
 
 returns-2 : tie.Need-returns-2
 returns-2 c =
-    let s = c .before .before .before in
     let g = c .before .before in
+    let s = g .before in
     far-step (s .args .x) (s .args .y) (s .pre .0) (s .pre .1) (g .gap .result) (g .gap .ensures) (rw (back g) at (c .before .if1 .left)) (s .args .kind) (s .args .size) (c .cut-pair .result)
     (rw (back g) at (c .cut-pair .ensures))
 

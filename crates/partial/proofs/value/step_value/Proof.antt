@@ -1,10 +1,7 @@
 -- `step_value` meets its contract: a zero finishes, and another value steps. Assumes nothing.
-use mathlib.Core.Path.{_≡_, refl, sym, ap, _∙_, subst}
-use Rattle.definitions.specs.Steps.{stepBy}
-use mathlib.Core.Bool.{true}
+use mathlib.Core.Path.{ap, _∙_, subst}
 use Rattle.formats.specs.Operand.{classIn}
-use Rattle.formats.specs.declared.operand.Operand.{Operand}
-use Rattle.partial.specs.Stands.{StandsOperand}
+use Rattle.partial.specs.Stands.{StandsOperand, finishedOf}
 use Rattle.partial.proofs.Pairs.{zero-step}
 use borrow.Author.Needs.{needs}
 use Rattle.partial.proofs.value.step_value.Statement.{statement}
@@ -55,7 +52,7 @@ returns-4 c = absurd (subst StandsOperand (c .before .enum-told3 .given .1) (c .
 
 returns-5 : tie.Need-returns-5
 unfolding classIn
-returns-5 c = let s = c .before .before .before in rw (c .before .enum-told4 .given .1) (c .finished4 .ensures ∙ ap (λ (o : Operand). record { done = true; left = record { value = o; quotient = 0 } }) (c .before .enum-told4 .given .1) ∙ zero-step (s .args .kind) (s .args .size) (c .before .enum-told4 .given .0 .0) (s .args .y) (s .pre .1))
+returns-5 c = let s = c .before .before .before in rw (c .before .enum-told4 .given .1) (c .finished4 .ensures ∙ ap finishedOf (c .before .enum-told4 .given .1) ∙ zero-step (s .args .kind) (s .args .size) (c .before .enum-told4 .given .0 .0) (s .args .y) (s .pre .1))
 
 pub step-value-spec : {M : Type 1} → statement M
 step-value-spec =

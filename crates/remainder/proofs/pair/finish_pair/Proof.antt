@@ -1,26 +1,17 @@
 -- `finish_pair` meets its contract: the gap decides which of the two laws holds. Assumes nothing.
-use mathlib.Core.Path.{_≡_, refl, sym, ap, _∙_, subst}
-use mathlib.Core.Bool.{Bool, true, false, not}
-use Prim.Native.Nat.{ℕ, _+_, _-_, _*_, _^_, _≤_, _<_, suc}
-use native.Mathlib.Nat.{mod-lt, mul-assoc, lt-of-lt-of-le}
+use mathlib.Core.Path.{_≡_, ap, _∙_}
+use Prim.Native.Nat.{_^_, _<_}
+use native.Mathlib.Nat.{mod-lt, lt-of-lt-of-le}
 use native.Mathlib.Omega.{arith}
-use lib.Dec.{T}
-use lib.IntN.{ℤ, pos, negsuc, natAbs, _+ℤ_, _-ℤ_}
-use lib.Ieee.{size}
-use lib.Pow.{pow-add, pow-pos}
-use lib.Signed.{ltZ, mag, nonNeg, natAbs-le}
+use lib.IntN.{ℤ, natAbs, _-ℤ_}
+use lib.Pow.{pow-pos}
+use lib.Signed.{mag, natAbs-le}
 use mir.Syntax.{w32}
 use mir.Val.{toZ, ofZ}
-use Rattle.definitions.specs.Class.{Value}
-use Rattle.definitions.specs.Division.{finishBy}
-use Rattle.definitions.specs.declared.Kind.{Kind}
-use Rattle.digits.proofs.Signed.{small-back, mag-sub}
-use Rattle.digits.proofs.Size.{size-pos}
+use Rattle.digits.proofs.Signed.{small-back}
 use Rattle.division.specs.Divided.{dividedOf}
 use Rattle.division.specs.declared.Divided.{Divided}
-use Rattle.formats.specs.Operand.{unpackedOf}
-use Rattle.formats.specs.declared.operand.Unpacked.{Unpacked}
-use Rattle.remainder.specs.Pair.{Ready, Unpacks, leftOf, settledOf, belowOf}
+use Rattle.remainder.specs.Pair.{settledOf, belowOf}
 use Rattle.remainder.proofs.TwoOperands.{gap-small, below-pair, settled-pair, not-negative}
 use borrow.Author.Needs.{needs}
 use Rattle.remainder.proofs.pair.finish_pair.Statement.{statement}
@@ -64,7 +55,7 @@ cast-divide c =
     let d = s .args .x .exponent -ℤ s .args .y .exponent in
     let left = rw (gap-back g) at (c .if1 .left) in
     let small = gap-small (s .args .x) (s .args .y) (s .pre .0) (s .pre .1) in
-    rw (gap-back g) (not-negative d left, record { fits = omega (arith, natAbs-le d {H = 2 ^ 19} small) })
+    rw (gap-back g) (not-negative 0 d left, record { fits = omega (arith, natAbs-le d {H = 2 ^ 19} small) })
 
 divide-requires : tie.Need-divide-requires
 divide-requires c κs = search needs
@@ -72,7 +63,7 @@ divide-requires c κs = search needs
 settle-requires : tie.Need-settle-requires
 settle-requires c κs =
     let s = c .before .before .before .before in
-    (rw (c .before .divide .ensures) (mod-lt _ (lt-of-lt-of-le (pow-pos 63) (s .pre .1 .top))), rw (exponent-back s) (s .pre .1 .small))
+    (rw (c .before .divide .ensures) (mod-lt _ (lt-of-lt-of-le (pow-pos 63) (s .pre .1 .top))), rw (exponent-back s) (omega (arith, s .pre .1 .small)))
 
 returns-2 : tie.Need-returns-2
 unfolding difference-of

@@ -6,7 +6,6 @@ use mir.Val.{toZ, ofZ}
 use Rattle.digits.proofs.Signed.{small-back, sub-fits, sub-is}
 use Rattle.formats.specs.declared.operand.Unpacked.{Unpacked}
 use Rattle.remainder.specs.Pair.{Ready}
-use borrow.Author.Needs.{needs}
 use Rattle.remainder.proofs.pair.gap.Statement.{statement}
 use Rattle.remainder.proofs.pair.gap.Tie as tie
 

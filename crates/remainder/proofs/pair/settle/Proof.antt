@@ -1,15 +1,13 @@
--- `settle` meets its contract. Assumes nothing.
+-- `settle` meets its contract, by whether the quotient goes up. Assumes nothing.
 use mathlib.Core.Path.{_≡_, sym, ap, _∙_}
-use mathlib.Core.Bool.{Bool, true, false, not}
-use Prim.Native.Nat.{ℕ, _+_, _-_, _%_, _^_}
+use mathlib.Core.Bool.{true, false, not}
+use Prim.Native.Nat.{_-_}
 use native.Mathlib.Omega.{arith}
-use lib.IntN.{ℤ}
 use mir.Syntax.{w32}
 use mir.Val.{toZ, ofZ}
 use mir.ValLaws.{toZ-ofZ}
-use Rattle.digits.proofs.Signed.{small-back}
+use Rattle.definitions.specs.Division.{roundsUp}
 use Rattle.formats.specs.Operand.{normalOf}
-use Rattle.remainder.specs.declared.pair.Left.{Left}
 use borrow.Author.Needs.{needs}
 use Rattle.remainder.proofs.pair.settle.Statement.{statement}
 use Rattle.remainder.proofs.pair.settle.Tie as tie
@@ -35,7 +33,7 @@ normalise-requires-2 c κs = rw (back (c .before .before)) (omega arith)
 returns : tie.Need-returns
 returns c =
     let s = c .before .before .before .before in
-    let up = sym (c .before .before .before .rounds-up .ensures) ∙ c .before .before .if1 .taken in
+    let up : roundsUp (s .args .kind) (s .args .left .quotient) (s .args .left .remainder) (s .args .divisor) ≡ true = sym (c .before .before .before .rounds-up .ensures) ∙ c .before .before .if1 .taken in
     rw up (λ i. record {
       value = (c .before .normalise .ensures ∙ ap (normalOf (not (s .args .negative)) (s .args .divisor - s .args .left .remainder)) (back s)) i;
       quotient = c .wrapping-add-u32 .ensures i;
@@ -44,8 +42,8 @@ returns c =
 returns-2 : tie.Need-returns-2
 returns-2 c =
     let s = c .before .before .before in
-    let up = sym (c .before .before .rounds-up .ensures) ∙ c .before .if1 .left in
-    rw up (λ i. record {
+    let down : roundsUp (s .args .kind) (s .args .left .quotient) (s .args .left .remainder) (s .args .divisor) ≡ false = sym (c .before .before .rounds-up .ensures) ∙ c .before .if1 .left in
+    rw down (λ i. record {
       value = (c .normalise2 .ensures ∙ ap (normalOf (s .args .negative) (s .args .left .remainder)) (back s)) i;
       quotient = s .args .left .quotient;
     })

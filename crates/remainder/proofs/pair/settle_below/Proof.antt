@@ -1,17 +1,14 @@
 -- `settle_below` meets its contract, case by case. Assumes nothing.
-use mathlib.Core.Path.{_≡_, refl, sym, ap, _∙_}
-use mathlib.Core.Bool.{Bool, true, false, not}
-use Prim.Native.Nat.{ℕ, _-_}
+use mathlib.Core.Path.{_≡_, ap, _∙_}
+use mathlib.Core.Bool.{not}
+use Prim.Native.Nat.{_-_}
 use native.Mathlib.Omega.{arith}
 use borrow.Author.Tests.{lt-ltb, le-ltb}
-use lib.IntN.{ℤ, negsuc}
-use lib.Signed.{ltZ}
 use mir.Syntax.{w32}
 use mir.Val.{toZ, ofZ}
 use mir.ValLaws.{toZ-ofZ}
 use Rattle.digits.proofs.Signed.{small-back}
 use Rattle.formats.specs.Operand.{normalOf}
-use Rattle.remainder.specs.Pair.{belowOf}
 use borrow.Author.Needs.{needs}
 use Rattle.remainder.proofs.pair.settle_below.Statement.{statement}
 use Rattle.remainder.proofs.pair.settle_below.Tie as tie

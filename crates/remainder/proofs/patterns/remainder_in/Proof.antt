@@ -1,5 +1,5 @@
 -- `remainder_in` meets its contract: the case of an examined pair decides, and each is a law of its own. Assumes nothing.
-use mathlib.Core.Path.{_≡_, refl, sym, ap, _∙_, subst}
+use mathlib.Core.Path.{ap, _∙_}
 use Prim.Native.Nat.{ℕ, _%_}
 use Rattle.definitions.specs.Format.{Format, classOf}
 use Rattle.definitions.specs.Answers.{remainderTold}
@@ -38,16 +38,12 @@ module _ (e : tie.After-examine) where
   unfolding format
   judged = let s = e .before .before .before in examined format within (s .args .x) (s .args .y) _ _ (e .examine .result) (e .before .before .unpack .ensures) (e .before .unpack2 .ensures) (e .examine .ensures)
 
--- the case that the code is in
-judged-as : (e : tie.After-examine) (o : _) → e .examine .result ≡ o → Judged (format e .smallest) (classOf (format e) (e .before .before .before .args .x)) (classOf (format e) (e .before .before .before .args .y)) o
-judged-as e o q = subst (Judged (format e .smallest) (classOf (format e) (e .before .before .before .args .x)) (classOf (format e) (e .before .before .before .args .y))) q (judged e)
-
 pack-requires : tie.Need-pack-requires
 unfolding format
 pack-requires c κs =
     let e = c .before .before .before in
     let s = e .before .before .before in
-    (s .pre .0, returned-packs (format e) (within e) (s .args .kind) (s .args .x) (s .args .y) _ (judged-as e _ (c .before .dividend .given .1)))
+    (s .pre .0, returned-packs (format e) (within e) (s .args .x) (s .args .y) _ (rw (c .before .dividend .given .1) at (judged e)))
 
 enum-known-a : tie.Need-enum-known-a
 enum-known-a c = search needs
@@ -57,21 +53,21 @@ unfolding format
 finish-pair-requires c κs =
     let e = c .before .before .before in
     let s = e .before .before .before in
-    both-ready (format e) (within e) (s .args .kind) (s .args .x) (s .args .y) _ _ (judged-as e _ (c .before .a .given .1))
+    both-ready (format e) (within e) (s .args .x) (s .args .y) _ _ (rw (c .before .a .given .1) at (judged e))
 
 pack-requires-2 : tie.Need-pack-requires-2
 unfolding format
 pack-requires-2 c κs =
     let e = c .before .before .before .before in
     let s = e .before .before .before in
-    (s .pre .0, divided-packs (format e) (within e) (s .args .kind) (s .args .x) (s .args .y) _ _ (judged-as e _ (c .before .before .a .given .1)) (c .finish-pair .result) (c .finish-pair .ensures))
+    (s .pre .0, divided-packs (format e) (within e) (s .args .x) (s .args .y) (s .args .kind) _ _ (rw (c .before .before .a .given .1) at (judged e)) (c .finish-pair .result) (c .finish-pair .ensures))
 
 returns : tie.Need-returns
 unfolding format remainderTold
 returns c =
     let e = c .before .before .before in
     let s = e .before .before .before in
-    refused (format e) (within e) (s .args .kind) (s .args .x) (s .args .y) (c .before .why .given .0 .0) (judged-as e _ (c .before .why .given .1))
+    refused (format e) (within e) (s .args .x) (s .args .y) (s .args .kind) (c .before .why .given .0 .0) (rw (c .before .why .given .1) at (judged e))
 
 returns-2 : tie.Need-returns-2
 unfolding format remainderTold
@@ -79,7 +75,7 @@ returns-2 c =
     let e = c .before .before .before .before in
     let s = e .before .before .before in
     ap (λ (p : ℕ). record { number = 0; value = p; quotient = 0 }) (c .pack .ensures)
-    ∙ returned (format e) (within e) (s .args .kind) (s .args .x) (s .args .y) _ (judged-as e _ (c .before .before .dividend .given .1))
+    ∙ returned (format e) (within e) (s .args .x) (s .args .y) (s .args .kind) _ (rw (c .before .before .dividend .given .1) at (judged e))
 
 returns-3 : tie.Need-returns-3
 unfolding format remainderTold
@@ -88,7 +84,7 @@ returns-3 c =
     let e = l .before .before .before .before in
     let s = e .before .before .before in
     ap (λ (p : ℕ). record { number = 0; value = p; quotient = l .finish-pair .result .quotient % 8 }) (c .before .pack2 .ensures)
-    ∙ divided (format e) (within e) (s .args .kind) (s .args .x) (s .args .y) _ _ (judged-as e _ (l .before .before .a .given .1)) (l .finish-pair .result) (l .finish-pair .ensures)
+    ∙ divided (format e) (within e) (s .args .x) (s .args .y) (s .args .kind) _ _ (rw (l .before .before .a .given .1) at (judged e)) (l .finish-pair .result) (l .finish-pair .ensures)
 
 pub remainder-in-spec : {M : Type 1} → statement M
 remainder-in-spec =
