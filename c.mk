@@ -1,7 +1,7 @@
 # The C side: header, examples, tests from the outside, measurements, installation.
 # To be included by the Makefile; works alone too: make -f c.mk outside
 #
-#   outside         the quick tests: header, examples, vectors, lent memory, binary16, the processor, the C library (about a minute)
+#   outside         the quick tests: header, examples, readings, vectors, lent memory, binary16, the processor, the C library (about a minute)
 #   outside-long    the same comparisons with ten million operand pairs a format and more
 #   outside-half    all 2^32 pairs of binary16, both kinds, against whole-number division and the second implementation (some 40 minutes)
 #   bench           times and ratios, then instructions by callgrind
@@ -64,8 +64,9 @@ examples: $(c_out)/fold_angle $(c_out)/step80
 	$(c_out)/fold_angle | diff examples/fold_angle.out -
 	$(c_out)/step80 | diff examples/step80.out -
 
-outside: header examples $(addprefix $(c_out)/,host untouched vectors half fprem libm)
+outside: header examples $(addprefix $(c_out)/,host readings untouched vectors half fprem libm)
 	$(c_out)/host
+	$(c_out)/readings
 	$(c_out)/untouched
 	$(c_out)/vectors
 	$(c_out)/half
