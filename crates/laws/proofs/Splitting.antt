@@ -3,7 +3,7 @@ use mathlib.Core.Path.{_≡_, refl, ap, _∙_}
 use Prim.Native.Nat.{ℕ, zero, suc, _+_, _-_, _*_, _^_, _<_, _∣_}
 use native.Mathlib.Nat.{div-mul-cancel, mul-pos, mul-dvd-mul-right, dvd-trans}
 use native.Mathlib.Omega.{arith}
-use lib.IntN.{pos, negℤ, natAbs, +ℤ-invr}
+use lib.IntN.{pos, negℤ, natAbs, _+ℤ_, +ℤ-invr}
 use lib.Pow.{pow-add, pow-pos}
 use lib.Ieee.{size}
 use lib.Ieee.Positive.{first-pos}

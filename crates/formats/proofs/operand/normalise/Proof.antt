@@ -1,5 +1,6 @@
 -- `normalise` meets its contract: the shift is the count of leading zeros, and nothing is shifted out. Assumes nothing.
-use Prim.Native.Nat.{_<_}
+use mathlib.Core.Path.{_≡_, refl}
+use Prim.Native.Nat.{_<_, _^_, _*_}
 use native.Mathlib.Nat.{mod-eq-of-lt, pos-of-ne-zero}
 use native.Mathlib.Omega.{arith}
 use borrow.Author.Tests.{eq-eqb, ne-eqb}
