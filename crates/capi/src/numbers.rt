@@ -1,26 +1,9 @@
 // Numbers for the enums that the library answers with and asks for.
 use definitions::Kind;
-use definitions::Refusal;
 use definitions::Rounding;
 ghost use mathlib.Core.Path.{_≡_};
-ghost use Rattle.definitions.specs.Answers.{refusalNumber};
 ghost use Rattle.definitions.specs.Block.{kindOf};
 ghost use Rattle.capi.specs.Interface.{saysNumber};
-
-// "The number on the slip" of a refusal.
-pub fn refusal_number(why: Refusal) -> u8
-    ensures { λ r. ⌜ r ≡ refusalNumber why ⌝ }
-{
-    match why {
-        Refusal::Misfit => 9,
-        Refusal::Missized => 6,
-        Refusal::Unsupported => 2,
-        Refusal::Nan => 3,
-        Refusal::Infinite => 4,
-        Refusal::ZeroDivisor => 5,
-        Refusal::ZeroSplit => 8,
-    }
-}
 
 // "0 is truncated, any other is nearest."
 pub fn kind_of(kind: u32) -> Kind

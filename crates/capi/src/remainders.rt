@@ -1,6 +1,5 @@
 // The remainder in one call, for each format.
 use crate::numbers::kind_of;
-use crate::numbers::refusal_number;
 use definitions::Extended;
 use definitions::RemainderAnswer;
 use definitions::RemainderAnswer80;
@@ -8,6 +7,7 @@ use remainder::patterns::remainder16;
 use remainder::patterns::remainder32;
 use remainder::patterns::remainder64;
 use remainder::patterns::remainder80;
+use remainder::refusal::refusal_number;
 ghost use mathlib.Core.Path.{_≡_};
 ghost use Rattle.definitions.specs.Format.{binary16, binary32, binary64, x87};
 ghost use Rattle.definitions.specs.Remainder.{remainder};

@@ -1,9 +1,9 @@
 // Scaling by a power of two, for each format.
-use crate::numbers::refusal_number;
 use crate::numbers::says_number;
 use definitions::Extended;
 use definitions::ScaleAnswer;
 use definitions::ScaleAnswer80;
+use remainder::refusal::refusal_number;
 use scaling::scale::scale16;
 use scaling::scale::scale32;
 use scaling::scale::scale64;

@@ -1,8 +1,8 @@
 // Splitting into a significand and an exponent, for each format.
-use crate::numbers::refusal_number;
 use definitions::Extended;
 use definitions::SplitAnswer;
 use definitions::SplitAnswer80;
+use remainder::refusal::refusal_number;
 use scaling::split::split16;
 use scaling::split::split32;
 use scaling::split::split64;

@@ -2,12 +2,12 @@
 use crate::block::BLOCK_LENGTH;
 use crate::block::fill;
 use crate::numbers::kind_of;
-use crate::numbers::refusal_number;
 use definitions::Extended;
 use definitions::RunAnswer;
 use definitions::StepAnswer;
 use partial::run::run80;
 use partial::step::step80;
+use remainder::refusal::refusal_number;
 ghost use mathlib.Core.Path.{_≡_};
 ghost use Rattle.definitions.specs.Reports.{stepReport, runReport};
 ghost use Rattle.definitions.specs.Block.{kindOf, blockAfter};

@@ -98,6 +98,9 @@ impl Binary64 {
 
     pub const SMALLEST: i32 = -1074;
 
+    // What a refusal shows as its value.
+    pub const HOUSE_NAN: u64 = 0x7FF8_0000_0000_0000;
+
     pub fn shape() -> Shape
         ensures { λ r. ⌜ r ≡ shapeOf binary64 ⌝ }
     {

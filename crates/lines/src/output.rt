@@ -1,17 +1,15 @@
 // The lines that are written: an answer, and `bad line`.
 use crate::hex::upper_hex;
-use definitions::Refusal;
 use definitions::RemainderAnswer;
+use formats::formats::Binary64;
+use remainder::refusal::refusal_number;
 ghost use mathlib.Core.Path.{_≡_};
 ghost use mathlib.Core.List.{[], _∷_, _++_};
 ghost use Prim.Native.Nat.{_≤_};
 ghost use Rattle.definitions.specs.Format.{binary64};
-ghost use Rattle.definitions.specs.Answers.{refusalNumber, remainderTold};
+ghost use Rattle.definitions.specs.Answers.{remainderTold};
 ghost use Rattle.definitions.specs.Line.{hexDigits, answerLine, badLine};
 ghost use Rattle.lines.specs.Output.{outputOf};
-
-// What a refusal returns as its value.
-const HOUSE_NAN: u64 = 0x7FF8_0000_0000_0000;
 
 // A line of output without its newline: the first `len` bytes, then zeros.
 pub struct Output {
@@ -25,20 +23,6 @@ pub fn bad_line() -> Output
     Output {
         bytes: *b"bad line\0\0\0\0\0\0\0\0\0\0\0\0",
         len: 8,
-    }
-}
-
-fn number_of(why: Refusal) -> u8
-    ensures { λ r. ⌜ r ≡ refusalNumber why ⌝ }
-{
-    match why {
-        Refusal::Misfit => 9,
-        Refusal::Missized => 6,
-        Refusal::Unsupported => 2,
-        Refusal::Nan => 3,
-        Refusal::Infinite => 4,
-        Refusal::ZeroDivisor => 5,
-        Refusal::ZeroSplit => 8,
     }
 }
 
@@ -68,6 +52,8 @@ pub fn line_of_answer(answer: RemainderAnswer) -> Output
         RemainderAnswer::Finished { value, quotient } => {
             digits_line(value, b'0' + (quotient as u8), b'0')
         }
-        RemainderAnswer::Refused(why) => { digits_line(HOUSE_NAN, b'0', b'0' + number_of(why)) }
+        RemainderAnswer::Refused(why) => {
+            digits_line(Binary64::HOUSE_NAN, b'0', b'0' + refusal_number(why))
+        }
     }
 }

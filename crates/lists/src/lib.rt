@@ -23,8 +23,6 @@ struct Place {
     byte: u8,
 }
 
-const HOUSE_NAN: u64 = 0x7FF8000000000000;
-
 // The byte of a place with no remainder: no quotient's three bits are it.
 const MARK: u8 = 255;
 
@@ -38,7 +36,7 @@ fn place_of(x: u64, y: u64, kind: Kind) -> Place
             byte: quotient as u8,
         },
         RemainderAnswer::Refused(_) => Place {
-            value: HOUSE_NAN,
+            value: Binary64::HOUSE_NAN,
             byte: MARK,
         },
     }

@@ -2,3 +2,4 @@
 pub mod examine;
 pub mod pair;
 pub mod patterns;
+pub mod refusal;

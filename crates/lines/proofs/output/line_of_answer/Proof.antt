@@ -33,11 +33,11 @@ digits-line-requires c κs = search needs
 enum-known-answer-2 : tie.Need-enum-known-answer-2
 enum-known-answer-2 c = search needs
 
-number-of-requires : tie.Need-number-of-requires
-number-of-requires c κs = search needs
+refusal-number-requires : tie.Need-refusal-number-requires
+refusal-number-requires c κs = search needs
 
 add-digits-line-2 : tie.Need-add-digits-line-2
-add-digits-line-2 c = rw (c .number-of .ensures) (omega (arith, refusal-digit (c .before .before .answer2 .given .0 .0)))
+add-digits-line-2 c = rw (c .refusal-number .ensures) (omega (arith, refusal-digit (c .before .before .answer2 .given .0 .0)))
 
 digits-line-requires-2 : tie.Need-digits-line-requires-2
 digits-line-requires-2 c κs = search needs
@@ -48,7 +48,7 @@ returns c = rw (c .before .before .answer .given .1) (c .digits-line .ensures)
 
 returns-2 : tie.Need-returns-2
 unfolding remainderTold answerLine
-returns-2 c = rw (c .before .before .before .answer2 .given .1, sym (c .before .number-of .ensures)) (c .digits-line2 .ensures)
+returns-2 c = rw (c .before .before .before .answer2 .given .1, sym (c .before .refusal-number .ensures)) (c .digits-line2 .ensures)
 
 pub line-of-answer-spec : {M : Type 1} → statement M
 line-of-answer-spec =
@@ -59,7 +59,7 @@ line-of-answer-spec =
     add-digits-line
     digits-line-requires
     enum-known-answer-2
-    number-of-requires
+    refusal-number-requires
     add-digits-line-2
     digits-line-requires-2
     returns
