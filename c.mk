@@ -77,9 +77,10 @@ outside-long: $(c_out)/fprem $(c_out)/libm
 	$(c_out)/fprem 10000000 2
 	$(c_out)/libm 10000000 2
 
+# in sixteen parts, so that every core has some
 outside-half: $(c_out)/half $(c_out)/second
 	$(c_out)/half 1
-	$(c_out)/second
+	seq 0 4096 65535 | xargs -P $$(nproc) -I FIRST sh -c '$(c_out)/second FIRST $$((FIRST + 4095))'
 
 bench: $(c_out)/bench
 	$(c_out)/bench
