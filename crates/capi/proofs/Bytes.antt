@@ -1,13 +1,12 @@
 -- The bytes that are stored into a block, and that they are the definition's. Assumes nothing.
-use mathlib.Core.Path.{_≡_, refl, sym, ap, _∙_}
+use mathlib.Core.Path.{_≡_, sym, ap, _∙_}
 use mathlib.Core.List.{List, [], _∷_, _++_, append-nil}
-use Prim.Native.Nat.{ℕ, zero, suc, _+_, _*_, _/_, _%_, _^_, _≤_, _<_}
+use Prim.Native.Nat.{ℕ, zero, suc, _+_, _*_, _/_, _%_, _^_, _<_}
 use native.Mathlib.Nat.{div-div-eq-div-mul, mod-eq-of-lt, zero-add, suc-add, mul-assoc, pow-suc}
 use native.Mathlib.Omega.{arith}
-use lib.ListN.{length, set, drop}
+use lib.ListN.{length, drop}
 use lib.Seq.{sets, sets-eq, drop-length}
 use Rattle.definitions.specs.Block.{bytesOf, blockOf}
-use Rattle.definitions.specs.Reports.{Report}
 
 -- storing vs from 0 on into a list as long as vs leaves vs
 all-stored : (vs l : List ℕ) → length l ≡ length vs → sets l 0 vs ≡ vs

@@ -1,5 +1,5 @@
 -- What an answer block holds after a call, from what the library told. Assumes nothing.
-use mathlib.Core.Path.{_≡_, refl, sym, ap, _∙_, subst}
+use mathlib.Core.Path.{_≡_, refl, subst}
 use mathlib.Core.Bool.{Bool, true, false, cond}
 use mathlib.Core.List.{List}
 use Prim.Native.Nat.{ℕ, _<_}
@@ -11,7 +11,7 @@ use Rattle.definitions.specs.Format.{classOf, x87}
 use Rattle.definitions.specs.Division.{dividendOf, divisorOf}
 use Rattle.definitions.specs.Steps.{step, run}
 use Rattle.definitions.specs.Remainder.{shown}
-use Rattle.definitions.specs.Reports.{Report, Lent, nothing, block, stepReport, runReport}
+use Rattle.definitions.specs.Reports.{Report, nothing, block, stepReport, runReport}
 use Rattle.definitions.specs.Block.{blockOf, blockAfter}
 use Rattle.definitions.specs.Answers.{stepTold, runTold}
 use Rattle.definitions.specs.declared.Kind.{Kind}

@@ -8,7 +8,6 @@ use native.Mathlib.Omega.{arith}
 use borrow.Author.Tests.{eqb-true}
 use lib.Dec.{eqb}
 use lib.ListN.{length, length-append}
-use Rattle.digits.proofs.Tests.{clash}
 use Rattle.definitions.specs.Class.{Value}
 use Rattle.definitions.specs.Numbers.{accepted}
 use Rattle.definitions.specs.declared.Kind.{Kind}

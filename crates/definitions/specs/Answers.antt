@@ -1,6 +1,6 @@
 -- Document 01's number and values for each case of each answer of the code. Definitions only.
 use Prim.Native.Nat.{ℕ, _+_, _*_, _^_}
-use lib.IntN.{ℤ, pos}
+use lib.IntN.{pos}
 use Rattle.definitions.specs.declared.Refusal.{Refusal}
 use Rattle.definitions.specs.declared.Refusal.the-variants as why
 use Rattle.definitions.specs.declared.Rounding.the-variants.{Exact}

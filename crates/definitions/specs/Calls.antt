@@ -1,17 +1,17 @@
 -- Lists of step and run calls from one dividend, and what is claimed of every such list. Definitions only.
-use Prim.Native.Nat.{ℕ, _+_, _*_, _%_, _≤_, _<_}
+use Prim.Native.Nat.{ℕ, _+_, _*_, _%_, _≤_}
 use mathlib.Core.Path.{_≡_}
-use mathlib.Core.Bool.{Bool, true, false, cond, _||_}
+use mathlib.Core.Bool.{Bool, true, false, _||_}
 use mathlib.Core.List.{List, [], _∷_, _++_}
 use lib.Dec.{eqb}
 use lib.ListN.{length}
 use lib.IntN.{ℤ, _+ℤ_, _*ℤ_}
-use Rattle.definitions.specs.Class.{Value, Class, finite, valueOf, gap}
+use Rattle.definitions.specs.Class.{Value, valueOf, gap}
 use Rattle.definitions.specs.Format.{classOf, x87}
 use Rattle.definitions.specs.Numbers.{accepted}
 use Rattle.definitions.specs.declared.Kind.{Kind}
-use Rattle.definitions.specs.Division.{Reply, Divisor, by, dividendOf, divisorOf}
-use Rattle.definitions.specs.Remainder.{Remainder, remainder, quotientModulus}
+use Rattle.definitions.specs.Division.{Divisor, by, dividendOf}
+use Rattle.definitions.specs.Remainder.{remainder, quotientModulus}
 use Rattle.definitions.specs.Steps.{Link, chain, partsSum, mostSteps}
 use Rattle.definitions.specs.Reports.{Report, Lent, nothing, stepReport, runReport}
 

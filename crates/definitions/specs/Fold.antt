@@ -1,6 +1,6 @@
 -- Folding of a list of binary64 patterns by one divisor. Definitions only.
 use Prim.Native.Nat.{ℕ, _+_}
-use mathlib.Core.Bool.{Bool, true, false, not, cond, _&&_, _||_}
+use mathlib.Core.Bool.{Bool, false, not, cond, _&&_, _||_}
 use mathlib.Core.List.{List, [], _∷_, map}
 use lib.Dec.{eqb}
 use lib.ListN.{length}
@@ -8,7 +8,7 @@ use Rattle.definitions.specs.Class.{Class}
 use Rattle.definitions.specs.Format.{classOf, binary64}
 use Rattle.definitions.specs.Numbers.{Tests, numberOf, isNan, isInfinite, isZero}
 use Rattle.definitions.specs.declared.Kind.{Kind}
-use Rattle.definitions.specs.Remainder.{Remainder, remainder}
+use Rattle.definitions.specs.Remainder.{remainder}
 
 -- "lists of unequal length"; "A NaN divisor is 3 and a zero one 5, for the whole list"
 abbrev pub folding : ℕ → ℕ → ℕ → Class → Tests

@@ -1,13 +1,13 @@
 -- The four formats, what their patterns stand for, and the pattern of a value. A pattern is one number; x87's is its 16-bit word
 -- times 2 ^ 64, plus its significand. Definitions only.
-use Prim.Native.Nat.{ℕ, zero, suc, _+_, _-_, _*_, _/_, _%_, _^_, _≤_}
+use Prim.Native.Nat.{ℕ, _+_, _-_, _*_, _/_, _%_, _^_, _≤_}
 use mathlib.Core.Path.{_≡_}
-use mathlib.Core.Bool.{Bool, true, false, cond}
+use mathlib.Core.Bool.{Bool, cond}
 use lib.Dec.{leb, eqb}
 use lib.IntN.{ℤ, pos, negsuc, _+ℤ_}
 use lib.Ieee.{size}
 use Rattle.digits.specs.Digits.{Digits}
-use Rattle.definitions.specs.Class.{Value, Class, unsupported, nan, infinite, finite}
+use Rattle.definitions.specs.Class.{Class, unsupported, nan, infinite, finite}
 
 -- whether the leading digit of the significand is left out of the pattern or stands in it
 pub data Layout : Type 0 where

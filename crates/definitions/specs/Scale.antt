@@ -1,18 +1,18 @@
 -- Scaling by a power of two, and splitting. Definitions only.
 use Prim.Native.Nat.{ℕ, suc, _-_, _*_, _/_, _^_}
-use mathlib.Core.Bool.{Bool, true, false, cond}
+use mathlib.Core.Bool.{Bool, false, cond}
 use lib.Dec.{eqb}
-use lib.IntN.{ℤ, pos, negsuc, natAbs, _+ℤ_}
+use lib.IntN.{ℤ, pos, negsuc, natAbs}
 use lib.Signed.{ltZ}
 use lib.Ieee.{size}
 use Rattle.definitions.specs.Class.{Value, Class, unsupported, nan, infinite, finite}
-use Rattle.definitions.specs.Format.{Format, classOf, patternOf, exponentOf, houseNan}
+use Rattle.definitions.specs.Format.{Format, classOf, patternOf, exponentOf}
 use Rattle.definitions.specs.Numbers.{Tests, numberOf, accepted, isUnsupported, isNan, isInfinite, isZero}
 use Rattle.definitions.specs.Division.{dividendOf}
 use Rattle.definitions.specs.Remainder.{refusedValue}
 use Rattle.definitions.specs.declared.Rounding.{Rounding}
-use Rattle.definitions.specs.declared.Rounding.the-variants.{Exact, Up, Down}
-use Rattle.definitions.specs.Cut.{Rounded, cut}
+use Rattle.definitions.specs.declared.Rounding.the-variants.{Exact, Up}
+use Rattle.definitions.specs.Cut.{cut}
 
 -- a scaled value, and how it was rounded
 pub record Scaled : Type 0 where

@@ -8,7 +8,7 @@ use Rattle.definitions.specs.declared.Kind.{Kind}
 use Rattle.definitions.specs.declared.Kind.the-variants.{Truncated, Nearest}
 use Rattle.definitions.specs.Remainder.{Remainder, remainder}
 use Rattle.definitions.specs.Reports.{Report, nothing, stepReport, runReport}
-use Rattle.definitions.specs.Calls.{Call, step, answer, taken, lastValue, lastNumber, totalQuotient}
+use Rattle.definitions.specs.Calls.{step, answer, taken, lastValue, lastNumber, totalQuotient}
 use Rattle.definitions.specs.declared.Rounding.{Rounding}
 use Rattle.definitions.specs.declared.Rounding.the-variants.{Exact, Up, Down}
 use Rattle.definitions.specs.Scale.{ScaleReport, scaleReport}

@@ -1,9 +1,9 @@
 -- The shift by the count of leading zeros brings the leading one to the top. Assumes nothing.
-use mathlib.Core.Path.{_≡_, sym, ap, _∙_, subst}
-use Prim.Native.Nat.{ℕ, suc, _+_, _-_, _*_, _^_, _≤_, _<_}
+use mathlib.Core.Path.{_≡_}
+use Prim.Native.Nat.{ℕ, _+_, _-_, _*_, _^_, _≤_, _<_}
 use native.Mathlib.Omega.{arith}
 use lib.Count.{leadingZeros}
-use lib.Pow.{pow-add, pow-pos, shl-lt}
+use lib.Pow.{pow-add, shl-lt}
 use lib.Ieee.{size}
 use lib.Ieee.Digits.{size-lt}
 use native.Mathlib.Nat.{mul-le-mul-right}

@@ -1,7 +1,7 @@
 -- The number of binary digits: bounds, shifts, and the machine's count of leading zeros. Assumes nothing.
-use mathlib.Core.Path.{_≡_, refl, sym, ap, _∙_, subst}
+use mathlib.Core.Path.{_≡_, refl}
 use Prim.Native.Nat.{ℕ, zero, suc, _+_, _-_, _*_, _/_, _^_, _≤_, _<_}
-use native.Mathlib.Nat.{lt-of-le-of-lt, lt-of-lt-of-le, le-trans, le-antisymm, lt-of-not-le, lt-irrefl, zero-lt-suc, add-zero, mul-le-mul-right, le-div-iff-mul-le, div-mul-cancel}
+use native.Mathlib.Nat.{lt-of-le-of-lt, lt-of-lt-of-le, le-antisymm, lt-of-not-le, lt-irrefl, zero-lt-suc, add-zero, mul-le-mul-right, le-div-iff-mul-le}
 use native.Mathlib.Omega.{arith}
 use lib.Pow.{pow-add, pow-pos, pow-mono, shl-lt, shr-lt}
 use lib.Count.{leadingZeros, leading-top, leading-of-zero}

@@ -1,7 +1,7 @@
 -- How large the parts of a sound shape are. Assumes nothing.
-use mathlib.Core.Path.{_≡_, refl, sym, ap, _∙_, subst}
-use Prim.Native.Nat.{ℕ, zero, suc, _+_, _-_, _*_, _/_, _%_, _^_, _≤_, _<_}
-use native.Mathlib.Nat.{mul-le-mul, lt-of-lt-of-le, le-trans, le-of-lt, mul-le-mul-right, mul-le-mul-left, le-refl, add-mul, zero-sub, zero-mul}
+use mathlib.Core.Path.{_≡_, refl, sym, ap, _∙_}
+use Prim.Native.Nat.{ℕ, zero, suc, _+_, _-_, _*_, _/_, _^_, _≤_, _<_}
+use native.Mathlib.Nat.{mul-le-mul, mul-le-mul-right, le-refl, add-mul, zero-sub, zero-mul}
 use native.Mathlib.Omega.{arith}
 use mathlib.Core.Bool.{Bool, true, false, not, cond}
 use lib.Dec.{ltb, nltb→le, T}
@@ -10,7 +10,7 @@ use lib.Signed.{mag}
 use lib.Pow.{pow-add, pow-pos, pow-mono}
 use lib.Ieee.{size}
 use lib.Ieee.Fits.{kept-lt}
-use Rattle.definitions.specs.Format.{Format, Regular, leading, topField, signWeight, patterns, reach, houseNan, infinityBody, magnitude}
+use Rattle.definitions.specs.Format.{leading, topField, signWeight, reach, houseNan, infinityBody, magnitude}
 use Rattle.digits.proofs.Size.{size-zero}
 use Rattle.formats.specs.Operand.{formatOf, Sound}
 use Rattle.formats.specs.declared.interchange.Shape.{Shape}

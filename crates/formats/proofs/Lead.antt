@@ -1,12 +1,12 @@
 -- The significand of a count, with its leading one at bit 63: it is the count in another place, it can be packed, and it is read back. Assumes nothing.
 use mathlib.Core.Path.{_≡_, refl, sym, ap, _∙_, subst}
 use mathlib.Core.Bool.{Bool, true, false}
-use Prim.Native.Nat.{ℕ, _+_, _-_, _*_, _/_, _%_, _^_, _≤_, _<_, _∣_}
+use Prim.Native.Nat.{ℕ, _+_, _-_, _*_, _/_, _^_, _≤_, _<_, _∣_}
 use native.Mathlib.Nat.{mul-comm, mul-div-cancel, div-mul-cancel, dvd-trans, mul-dvd-mul-right, le-div-iff-mul-le, div-lt-iff-lt-mul, mul-le-mul-right, mul-lt-mul-of-pos-right, pos-of-ne-zero}
 use native.Mathlib.Omega.{arith}
 use borrow.Author.Tests.{eqb-true, eqb-false}
 use lib.Dec.{eqb}
-use lib.IntN.{ℤ, pos, natAbs, _+ℤ_, _-ℤ_}
+use lib.IntN.{ℤ, pos, natAbs, _+ℤ_}
 use lib.Pow.{pow-add, pow-pos}
 use lib.Ieee.{size}
 use lib.Ieee.Digits.{size-lt}
@@ -15,8 +15,8 @@ use Rattle.digits.proofs.Digits.{pow-dvd, digits-dvd}
 use Rattle.digits.proofs.Signed.{add-sub, below-add}
 use Rattle.digits.proofs.Size.{size-pos, size-top}
 use Rattle.digits.proofs.Tests.{not-zero}
-use Rattle.definitions.specs.Class.{Value, Class, finite}
-use Rattle.formats.specs.Operand.{unpackedOf, operandOf, classIn, countIn, placeIn, Packable, PackableOperand}
+use Rattle.definitions.specs.Class.{Value, finite}
+use Rattle.formats.specs.Operand.{unpackedOf, operandOf, classIn, placeIn, Packable, PackableOperand}
 use Rattle.formats.specs.declared.operand.Operand.{Operand}
 use Rattle.formats.specs.declared.operand.Operand.the-variants.{Zero, Finite}
 

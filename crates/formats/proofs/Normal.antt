@@ -1,22 +1,19 @@
 -- A value brought to bit 63 is the operand of its count, whatever the place it was written in; and an operand's class is the one it was made of. Assumes nothing.
-use mathlib.Core.Path.{_≡_, refl, sym, ap, _∙_, subst}
-use mathlib.Core.Bool.{Bool, true, false, cond}
-use Prim.Native.Nat.{ℕ, zero, suc, _+_, _-_, _*_, _/_, _%_, _^_, _≤_, _<_}
-use native.Mathlib.Nat.{mul-assoc, mul-pos, mul-div-cancel, mul-div-mul-right, pos-of-ne-zero, zero-mul, zero-lt-suc, lt-of-lt-of-le, le-mul-of-pos-right}
+use mathlib.Core.Path.{_≡_, sym, ap, _∙_}
+use mathlib.Core.Bool.{Bool}
+use Prim.Native.Nat.{ℕ, zero, suc, _+_, _-_, _*_, _/_, _^_, _≤_, _<_}
+use native.Mathlib.Nat.{mul-assoc, mul-pos, mul-div-cancel, mul-div-mul-right, pos-of-ne-zero, zero-mul, zero-lt-suc, lt-of-lt-of-le}
 use native.Mathlib.Omega.{arith}
-use borrow.Author.Tests.{eq-eqb, ne-eqb}
+use borrow.Author.Tests.{eq-eqb}
 use lib.Count.{leadingZeros}
 use lib.Dec.{eqb}
-use lib.IntN.{ℤ, pos, natAbs, _+ℤ_, _-ℤ_, +ℤ-assoc, +ℤ-negℤ-cancel, pos-+ℤ-pos}
+use lib.IntN.{ℤ, pos, _+ℤ_, _-ℤ_, +ℤ-assoc, +ℤ-negℤ-cancel}
 use lib.Pow.{pow-add, pow-pos, shr-shr}
 use lib.Ieee.{size}
-use Rattle.definitions.specs.Class.{Value, Class, finite}
-use Rattle.digits.proofs.Tests.{not-zero, clash}
+use Rattle.definitions.specs.Class.{finite}
+use Rattle.digits.proofs.Tests.{not-zero}
 use Rattle.digits.proofs.Size.{size-shift, size-leading, size-pos, size-between, size-cut}
-use Rattle.digits.proofs.Signed.{add-sub}
-use Rattle.formats.specs.Operand.{operandOf, unpackedOf, normalOf, classIn, countIn, trimmedOf}
-use Rattle.formats.specs.declared.operand.Operand.{Operand}
-use Rattle.formats.specs.declared.operand.Operand.the-variants.{Zero, Finite}
+use Rattle.formats.specs.Operand.{operandOf, unpackedOf, normalOf, trimmedOf}
 
 -- the count of a value that is not zero is not zero
 module _ (s : ℤ) (n : Bool) (r t c : ℕ) (word : r < 2 ^ 64) (same : r * 2 ^ t ≡ c * 2 ^ 63) (some : 0 < r) where

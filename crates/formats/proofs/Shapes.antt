@@ -1,5 +1,5 @@
 -- The shapes of the three interchange formats are sound, and what they pack is read back. Assumes nothing.
-use mathlib.Core.Path.{_≡_, refl}
+use mathlib.Core.Path.{refl}
 use lib.Dec.{lit≤}
 use Rattle.definitions.specs.Format.{binary16, binary32, binary64}
 use Rattle.formats.specs.Operand.{Sound, shapeOf}

@@ -1,13 +1,13 @@
 -- The two words of an x87 operand and the one number that they are. Assumes nothing.
-use mathlib.Core.Path.{_≡_, refl, sym, ap, _∙_}
-use mathlib.Core.Bool.{Bool, true, false, not, cond}
+use mathlib.Core.Path.{_≡_, refl}
+use mathlib.Core.Bool.{Bool, true, false, not}
 use Prim.Native.Nat.{ℕ, _+_, _-_, _*_, _/_, _%_, _^_, _≤_, _<_}
 use native.Mathlib.Omega.{arith}
-use borrow.Author.Tests.{lt-ltb, le-ltb, le-leb, lt-leb, eq-eqb, ne-eqb}
+use borrow.Author.Tests.{le-leb, lt-leb, eq-eqb, ne-eqb}
 use lib.Arith.{digits-div, digits-mod}
 use lib.Dec.{T, leb, ltb, ltb→lt, nltb→le}
 use lib.Ieee.{size}
-use Rattle.definitions.specs.Class.{Class, finite, infinite, nan, unsupported}
+use Rattle.definitions.specs.Class.{finite, infinite, nan, unsupported}
 use Rattle.definitions.specs.Format.{x87, classOf, extendedClass, magnitude, leading, topField}
 
 module _ (w s : ℕ) (small : s < 2 ^ 64) where

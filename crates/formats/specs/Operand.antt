@@ -1,14 +1,13 @@
 -- How the code holds an operand. Nothing to believe: these only name the code's own values, so that contracts can be equations.
 use Prim.Native.Nat.{ℕ, _-_, _*_, _/_, _^_, _≤_, _<_}
-use mathlib.Core.Path.{_≡_}
-use mathlib.Core.Bool.{Bool, true, false, cond}
+use mathlib.Core.Bool.{Bool, cond}
 use lib.Count.{leadingZeros}
 use lib.Dec.{eqb, T}
 use lib.IntN.{ℤ, pos, natAbs, _+ℤ_, _-ℤ_}
 use lib.Signed.{leZ}
 use lib.Ieee.{size}
 use Rattle.definitions.specs.Class.{Value, Class, unsupported, nan, infinite, finite}
-use Rattle.definitions.specs.Format.{Format, hidden, Regular, reach}
+use Rattle.definitions.specs.Format.{Format, hidden, Regular}
 use Rattle.formats.specs.declared.operand.Unpacked.{Unpacked}
 use Rattle.formats.specs.declared.operand.Operand.{Operand}
 use Rattle.formats.specs.declared.operand.Operand.the-variants.{Unsupported, Nan, Infinite, Zero, Finite}

@@ -25,7 +25,6 @@ use Rattle.scaling.specs.Power.{far}
 use Rattle.scaling.specs.Operands.{Spans, Scalable, Holds, answerOf}
 use Rattle.scaling.specs.declared.operand.ScaledOperand.{ScaledOperand}
 use Rattle.scaling.specs.declared.operand.ScaledOperand.the-variants as scaled
-use Rattle.scaling.specs.declared.operand.SplitOperand.the-variants as split
 use Rattle.scaling.proofs.Scaled.{top-place}
 
 below-bias : (z b : ℕ) → T (leZ (negℤ (pos z)) (pos b))

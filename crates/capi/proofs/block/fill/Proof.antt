@@ -5,8 +5,6 @@ use Rattle.capi.proofs.Bytes.{block-stored}
 use borrow.Author.Needs.{needs}
 use Rattle.capi.proofs.block.fill.Statement.{statement}
 use Rattle.capi.proofs.block.fill.Tie as tie
-use Rattle.capi.proofs.block.fill.Reads as reads
-use Rattle.capi.proofs.block.fill.Lts as lts
 
 cast-block : tie.Need-cast-block
 cast-block c = search needs

@@ -1,5 +1,5 @@
 -- `magnitude_of` meets its contract: the field and the fraction of the trimmed value. Assumes nothing.
-use mathlib.Core.Path.{_≡_, refl, sym, ap, _∙_}
+use mathlib.Core.Path.{_≡_}
 use Prim.Native.Nat.{ℕ, _+_, _*_, _^_, _≤_, _<_}
 use native.Mathlib.Nat.{lt-of-lt-of-le}
 use native.Mathlib.Omega.{arith}
@@ -9,7 +9,7 @@ use mir.Syntax.{w32}
 use mir.Val.{toZ, ofZ}
 use Rattle.definitions.specs.Format.{magnitude, reach}
 use Rattle.digits.proofs.Signed.{small-back}
-use Rattle.formats.specs.Operand.{formatOf, countIn, Packable}
+use Rattle.formats.specs.Operand.{formatOf, countIn}
 use Rattle.formats.proofs.Normal.{count-size}
 use Rattle.formats.proofs.Bounds.{sign-le, magnitude-small, smallest-small}
 use Rattle.formats.proofs.interchange.magnitude_of.Statement.{statement}

@@ -1,15 +1,11 @@
 -- `pack` meets its contract, case by case. Assumes nothing.
-use mathlib.Core.Path.{_≡_, refl, sym, ap, _∙_, subst}
-use Prim.Native.Nat.{ℕ, _+_, _*_, _^_, _≤_, _<_, zero-le}
+use mathlib.Core.Path.{sym, ap, _∙_, subst}
+use Prim.Native.Nat.{zero-le}
 use native.Mathlib.Nat.{lt-of-le-of-lt}
-use native.Mathlib.Omega.{arith}
 use borrow.Author.Needs.{needs}
 use lib.Ieee.{size}
-use Rattle.definitions.specs.Class.{Class}
-use Rattle.definitions.specs.Format.{patternOf, signWeight, magnitude, withSign, reach}
-use Rattle.digits.proofs.Size.{size-zero}
-use Rattle.formats.specs.Operand.{formatOf, classIn, countIn, Packable, PackableOperand}
-use Rattle.formats.specs.declared.operand.Operand.{Operand}
+use Rattle.definitions.specs.Format.{patternOf, magnitude, withSign, reach}
+use Rattle.formats.specs.Operand.{formatOf, classIn, Packable, PackableOperand}
 use Rattle.formats.proofs.Normal.{count-size}
 use Rattle.formats.proofs.Bounds.{infinity-small, magnitude-small, magnitude-zero}
 use Rattle.formats.proofs.interchange.pack.Statement.{statement}

@@ -1,7 +1,7 @@
 -- `unpack` meets its contract: the fields are the definition's, and each case is its class. Assumes nothing.
-use mathlib.Core.Path.{_≡_, refl, sym, ap, _∙_, subst}
-use mathlib.Core.Bool.{Bool, true, false}
-use Prim.Native.Nat.{ℕ, _+_, _-_, _*_, _/_, _%_, _^_, _≤_, _<_, zero-le}
+use mathlib.Core.Path.{_≡_, refl, sym, ap, _∙_}
+use mathlib.Core.Bool.{Bool}
+use Prim.Native.Nat.{ℕ, _+_, _-_, _*_, _/_, _%_, _^_, _≤_, _<_}
 use native.Mathlib.Nat.{mod-lt, mul-assoc}
 use native.Mathlib.Omega.{arith}
 use borrow.Author.Needs.{needs}
@@ -12,7 +12,7 @@ use lib.Signed.{mag}
 use lib.Pow.{pow-add}
 use mir.Syntax.{w32}
 use mir.Val.{toZ, ofZ}
-use Rattle.definitions.specs.Class.{Class, finite, infinite, nan}
+use Rattle.definitions.specs.Class.{finite}
 use Rattle.definitions.specs.Format.{Format, classOf, leading, topField, interchangeClass, fieldsClass, hidden}
 use Rattle.digits.proofs.Signed.{small-back, mag-add}
 use Rattle.formats.specs.Operand.{formatOf, operandOf, normalOf}

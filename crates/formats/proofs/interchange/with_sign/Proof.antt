@@ -1,5 +1,5 @@
 -- `with_sign` meets its contract: the sign's weight is at most 2^63, and the rest lies below it. Assumes nothing.
-use mathlib.Core.Path.{_≡_, ap}
+use mathlib.Core.Path.{ap}
 use Prim.Native.Nat.{ℕ, _+_}
 use native.Mathlib.Omega.{arith}
 use borrow.Author.Needs.{needs}

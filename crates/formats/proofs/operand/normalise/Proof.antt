@@ -1,6 +1,5 @@
 -- `normalise` meets its contract: the shift is the count of leading zeros, and nothing is shifted out. Assumes nothing.
-use mathlib.Core.Path.{_≡_, refl}
-use Prim.Native.Nat.{_<_, _^_, _*_}
+use Prim.Native.Nat.{_<_}
 use native.Mathlib.Nat.{mod-eq-of-lt, pos-of-ne-zero}
 use native.Mathlib.Omega.{arith}
 use borrow.Author.Tests.{eq-eqb, ne-eqb}

@@ -1,10 +1,10 @@
 -- `place_of` meets its contract: an exponent that is not below the smallest place is a natural number above it. Assumes nothing.
-use mathlib.Core.Path.{_≡_, refl, sym, ap, _∙_}
+use mathlib.Core.Path.{_≡_, ap, _∙_}
 use native.Mathlib.Omega.{arith}
 use lib.IntN.{ℤ, pos, natAbs, _-ℤ_}
 use mir.Syntax.{w32}
 use mir.Val.{toZ, ofZ}
-use mir.ValLaws.{toZ-ofZ, toZ-pos}
+use mir.ValLaws.{toZ-ofZ}
 use Rattle.digits.proofs.Signed.{above-pos}
 use Rattle.formats.specs.Operand.{placeIn}
 use Rattle.formats.proofs.operand.place_of.Statement.{statement}

@@ -1,5 +1,4 @@
 -- `magnitude` meets its contract: a leading digit adds one to the field. Assumes nothing.
-use mathlib.Core.Path.{_≡_, refl, sym, ap, _∙_}
 use Prim.Native.Nat.{ℕ, _-_, _≤_}
 use native.Mathlib.Omega.{arith}
 use lib.IntN.{negsuc}

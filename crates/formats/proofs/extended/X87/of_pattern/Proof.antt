@@ -1,5 +1,5 @@
 -- `of_pattern` meets its contract: the fields of the two words. Assumes nothing.
-use mathlib.Core.Path.{_≡_, sym, ap, _∙_}
+use mathlib.Core.Path.{sym, ap, _∙_}
 use native.Mathlib.Omega.{arith}
 use lib.IntN.{negsuc}
 use Rattle.formats.specs.Operand.{operandOf}

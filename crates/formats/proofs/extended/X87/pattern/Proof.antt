@@ -1,7 +1,5 @@
 -- `pattern` meets its contract, case by case. Assumes nothing.
-use mathlib.Core.Path.{_≡_, refl, sym, ap, _∙_, subst}
-use Prim.Native.Nat.{ℕ}
-use native.Mathlib.Omega.{arith}
+use mathlib.Core.Path.{sym, ap, _∙_, subst}
 use lib.IntN.{negsuc}
 use Rattle.definitions.specs.Format.{x87, patternOf, withSign, magnitude}
 use Rattle.formats.specs.Operand.{classIn, PackableOperand}
