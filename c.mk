@@ -2,7 +2,7 @@
 # To be included by the Makefile; works alone too: make -f c.mk outside
 #
 #   outside         the quick tests: header, examples, readings, vectors, lent memory, binary16, the processor, the C library (about a minute)
-#   outside-long    the same comparisons with ten million operand pairs a format and more
+#   outside-long    the last two with ten million operand pairs a format, then a second C library (musl) and MPFR (some ten minutes)
 #   outside-half    all 2^32 pairs of binary16, both kinds, against whole-number division and the second implementation (some 40 minutes)
 #   bench           times and ratios, then instructions by callgrind
 #   bench-lines     the line program against the same job by scanf, fmod and printf
@@ -21,9 +21,9 @@ c_out = target/c
 c_warn = -Wall -Wextra -pedantic
 c_flags = -std=c99 -O2 $(c_warn) -Iinclude
 # what is compared or measured is the C library's function, not what the compiler makes of its name
-c_nobuiltin = $(foreach n,fmod remainder remquo,-fno-builtin-$(n) -fno-builtin-$(n)f -fno-builtin-$(n)l)
+c_nobuiltin = $(foreach n,fmod remainder remquo ldexp frexp,-fno-builtin-$(n) -fno-builtin-$(n)f -fno-builtin-$(n)l)
 
-.PHONY: outside outside-long outside-half bench bench-lines examples header install install-check
+.PHONY: peers outside outside-long outside-half bench bench-lines examples header install install-check
 
 # rt proves again what has changed. Another LIB is taken as it is.
 target/staticlib/libcapi.a: $(shell find crates -name '*.rt' -o -name '*.antt') crates.txt
@@ -49,6 +49,17 @@ $(c_out)/second: tests/second.c include/zukemoriha.h $(LIB) target/staticlib/lib
 $(c_out)/host: tests/host.cc include/zukemoriha.h $(LIB) | $(c_out)
 	$(CXX) -O2 $(c_warn) -Iinclude $< $(LIB) -o $@
 
+# a second C library: the same programs, linked with it
+$(c_out)/%-musl: tests/%.c tests/calls.h tests/operands.h include/zukemoriha.h $(LIB) | $(c_out) peers
+	musl-gcc -static $(c_flags) $(c_nobuiltin) -Itests $< $(LIB) -lm -o $@
+
+$(c_out)/mpfr: tests/mpfr.c tests/calls.h tests/operands.h include/zukemoriha.h $(LIB) | $(c_out) peers
+	$(CC) $(c_flags) -Itests $< $(LIB) -lmpfr -lgmp -o $@
+
+# Debian's packages for the long part
+peers:
+	command -v musl-gcc > /dev/null && test -f /usr/include/mpfr.h || { apt-get update && apt-get install -y musl-tools libmpfr-dev; }
+
 # an object and not a whole Rust archive: that one brings a fmod of its own, which would be linked in the C library's place
 $(c_out)/shift.o: bench/shift.rs | $(c_out)
 	$(RUSTC) -O -C panic=abort --crate-type staticlib --emit obj $< -o $@
@@ -64,7 +75,7 @@ examples: $(c_out)/fold_angle $(c_out)/step80
 	$(c_out)/fold_angle | diff examples/fold_angle.out -
 	$(c_out)/step80 | diff examples/step80.out -
 
-outside: header examples $(addprefix $(c_out)/,host readings untouched vectors half fprem libm)
+outside: header examples $(addprefix $(c_out)/,host readings untouched vectors half fprem libm ldexp)
 	$(c_out)/host
 	$(c_out)/readings
 	$(c_out)/untouched
@@ -72,10 +83,15 @@ outside: header examples $(addprefix $(c_out)/,host readings untouched vectors h
 	$(c_out)/half
 	$(c_out)/fprem
 	$(c_out)/libm
+	$(c_out)/ldexp
 
-outside-long: $(c_out)/fprem $(c_out)/libm
+outside-long: $(addprefix $(c_out)/,fprem libm ldexp libm-musl ldexp-musl mpfr)
 	$(c_out)/fprem 10000000 2
 	$(c_out)/libm 10000000 2
+	$(c_out)/ldexp 10000000 2
+	$(c_out)/libm-musl 10000000 2
+	$(c_out)/ldexp-musl 10000000 2
+	$(c_out)/mpfr 10000000 2
 
 # in sixteen parts, so that every core has some
 outside-half: $(c_out)/half $(c_out)/second

@@ -1,0 +1,142 @@
+/*
+ * Scaling and splitting against the C library's ldexp and frexp, for binary64, binary32 and x87 (long double). What scaling says of its
+ * rounding is held to the result scaled back: a power that lowers a value loses bits, and the way back loses none.
+ *
+ *   ldexp [CASES [SEED]]    CASES of each for each format
+ */
+#include "operands.h"
+
+#include <math.h>
+
+/* What the C library says of x times 2^power, and of x split. */
+struct theirs {
+    struct pattern scaled, significand;
+    int says;
+    int exponent;
+    uint8_t scale_number, split_number;
+};
+
+/* frexp's significand is from a half to below 1, and document 01's from 1 to below 2. */
+#define ASK(NAME, TYPE, LDEXP, FREXP, OF_PATTERN, TO_PATTERN)                                                                              \
+    static struct theirs NAME(struct pattern px, int power) {                                                                             \
+        TYPE x = OF_PATTERN(px), scaled = LDEXP(x, power), back = LDEXP(scaled, -power), significand;                                      \
+        struct theirs c;                                                                                                                  \
+        significand = 2 * FREXP(x, &c.exponent);                                                                                          \
+        c.exponent--;                                                                                                                     \
+        c.scaled = TO_PATTERN(scaled);                                                                                                    \
+        c.significand = TO_PATTERN(significand);                                                                                          \
+        c.scale_number = isnan(x) ? ZK_NAN : ZK_FINISHED;                                                                                 \
+        c.split_number = isnan(x) ? ZK_NAN : isinf(x) ? ZK_INFINITE : x == 0 ? ZK_ZERO_SPLIT : ZK_FINISHED;                               \
+        c.says = isinf(x) ? ZK_EXACT : isinf(scaled) || (x < 0 ? back < x : back > x) ? ZK_UP : back == x ? ZK_EXACT : ZK_DOWN;         \
+        return c;                                                                                                                         \
+    }
+
+static float float_of(struct pattern x) {
+    return zk_float_of_pattern((uint32_t)x.bits);
+}
+
+static struct pattern of_float(float x) {
+    struct pattern p = {zk_pattern_of_float(x), 0};
+    return p;
+}
+
+static double double_of(struct pattern x) {
+    return zk_double_of_pattern(x.bits);
+}
+
+static struct pattern of_double(double x) {
+    struct pattern p = {zk_pattern_of_double(x), 0};
+    return p;
+}
+
+ASK(ask32, float, ldexpf, frexpf, float_of, of_float)
+ASK(ask64, double, ldexp, frexp, double_of, of_double)
+
+#ifdef ZK_LONG_DOUBLE_IS_X87
+static long double long_double_of(struct pattern x) {
+    return zk_long_double_of_pattern(x.bits, x.word);
+}
+
+static struct pattern of_long_double(long double x) {
+    struct pattern p = {zk_significand_of_long_double(x), zk_word_of_long_double(x)};
+    return p;
+}
+
+ASK(ask80, long double, ldexpl, frexpl, long_double_of, of_long_double)
+#endif
+
+static struct theirs ask(int f, struct pattern x, int power) {
+#ifdef ZK_LONG_DOUBLE_IS_X87
+    if (f == X87)
+        return ask80(x, power);
+#endif
+    return f == BINARY64 ? ask64(x, power) : ask32(x, power);
+}
+
+/* A power that takes x near the end of the range or the smallest place, or any that the format can tell from a larger one. */
+static int any_power(int f, struct pattern x, uint64_t *state) {
+    int largest = largest_gap(f), place, near = between(state, -70, 70);
+    if (below(state, 4) == 0 || !leading_place(f, x, &place))
+        return between(state, -largest - 80, largest + 80);
+    return (below(state, 4) == 0 ? formats[f].bias : formats[f].smallest) - place + near;
+}
+
+static void print_case(int f, struct pattern x, const char *what, struct reply r, struct pattern theirs, int second, uint8_t number) {
+    printf("%s %s %s:\n  zukemoriha %s %d number %u\n  C library  %s %d number %u\n", formats[f].name, text(f, x), what, text(f, r.value),
+           r.says + r.exponent, r.number, text(f, theirs), second, number);
+}
+
+static void compare_scaling(int f, struct pattern x, int power, struct theirs c) {
+    struct reply r = call_scale(f, x, power);
+    int right = r.number == c.scale_number && !r.touched;
+    char what[32];
+    if (right && r.number == 0)
+        right = same(r.value, c.scaled) && r.says == c.says;
+    if (right || !differs())
+        return;
+    sprintf(what, "scaled by %d", power);
+    print_case(f, x, what, r, c.scaled, c.says, c.scale_number);
+}
+
+static void compare_splitting(int f, struct pattern x, struct theirs c) {
+    struct reply r = call_split(f, x);
+    int right = r.number == c.split_number && !r.touched;
+    if (right && r.number == 0)
+        right = same(r.value, c.significand) && r.exponent == c.exponent;
+    if (!right && differs())
+        print_case(f, x, "split", r, c.significand, c.exponent, c.split_number);
+}
+
+static void compare_format(int f, uint64_t cases, uint64_t seed) {
+    uint64_t i, state = seed + (uint64_t)f, refused = 0, said[3] = {0, 0, 0};
+    for (i = 0; i < cases; i++) {
+        struct pattern x = any_pair(f, &state).x;
+        int power = any_power(f, x, &state);
+        struct theirs c;
+        /* C has no word for these patterns */
+        if (f == X87 && is_unsupported(x))
+            continue;
+        c = ask(f, x, power);
+        if (c.scale_number)
+            refused++;
+        else
+            said[c.says]++;
+        compare_scaling(f, x, power, c);
+        compare_splitting(f, x, c);
+    }
+    printf("%s: %" PRIu64 " scaled exactly, %" PRIu64 " up, %" PRIu64 " down, %" PRIu64 " refused, and all of them split\n", formats[f].name,
+           said[ZK_EXACT], said[ZK_UP], said[ZK_DOWN], refused);
+}
+
+int main(int argc, char **argv) {
+    uint64_t cases = argc > 1 ? strtoull(argv[1], NULL, 10) : 1000000;
+    uint64_t seed = argc > 2 ? strtoull(argv[2], NULL, 10) : 1;
+    compare_format(BINARY64, cases, seed);
+    compare_format(BINARY32, cases, seed);
+#ifdef ZK_LONG_DOUBLE_IS_X87
+    compare_format(X87, cases, seed);
+#else
+    printf("x87: long double is another format here, not compared\n");
+#endif
+    return verdict();
+}
