@@ -5,7 +5,7 @@
 #   make outside    the tests from outside alone (about a minute; the archive is proved and built first)
 # c.mk has the rest: outside-long, outside-half, bench, examples, install, install-check
 
-.PHONY: run test tools
+.PHONY: run test
 
 run:
 	rt check remainder_lines
@@ -15,9 +15,5 @@ test: tools
 	rt fmt --check
 	$(MAKE) outside
 	rt ci
-
-# what the C side needs beyond the kit
-tools:
-	command -v gcc > /dev/null && command -v g++ > /dev/null || { apt-get update && apt-get install -y gcc g++ libc6-dev; }
 
 include c.mk

@@ -23,7 +23,9 @@ c_flags = -std=c99 -O2 $(c_warn) -Iinclude
 # what is compared or measured is the C library's function, not what the compiler makes of its name
 c_nobuiltin = $(foreach n,fmod remainder remquo ldexp frexp,-fno-builtin-$(n) -fno-builtin-$(n)f -fno-builtin-$(n)l)
 
-.PHONY: peers outside outside-long outside-half bench bench-lines examples header install install-check
+debian = { apt-get update && apt-get install -y $(1); }
+
+.PHONY: tools peers meters outside outside-long outside-half bench bench-lines examples header install install-check
 
 # rt proves again what has changed. Another LIB is taken as it is.
 target/staticlib/libcapi.a: $(shell find crates -name '*.rt' -o -name '*.antt') crates.txt
@@ -34,7 +36,7 @@ target/staticlib/libsecond.a: $(shell find crates/second -name '*.rt' -o -name '
 	rt staticlib second
 	touch $@
 
-$(c_out):
+$(c_out): | tools
 	mkdir -p $@
 
 $(c_out)/%: tests/%.c tests/calls.h tests/operands.h include/zukemoriha.h $(LIB) | $(c_out)
@@ -56,18 +58,24 @@ $(c_out)/%-musl: tests/%.c tests/calls.h tests/operands.h include/zukemoriha.h $
 $(c_out)/mpfr: tests/mpfr.c tests/calls.h tests/operands.h include/zukemoriha.h $(LIB) | $(c_out) peers
 	$(CC) $(c_flags) -Itests $< $(LIB) -lmpfr -lgmp -o $@
 
-# Debian's packages for the long part
+# what the quick part, the long part and the measurements need beyond the kit: Debian's packages, where something is missing
+tools:
+	@which $(CC) $(CXX) pkg-config > /dev/null || $(call debian,gcc g++ libc6-dev pkg-config)
+
 peers:
-	command -v musl-gcc > /dev/null && test -f /usr/include/mpfr.h || { apt-get update && apt-get install -y musl-tools libmpfr-dev; }
+	@which musl-gcc > /dev/null && test -f /usr/include/mpfr.h || $(call debian,musl-tools libmpfr-dev)
+
+meters:
+	@which $(RUSTC) valgrind > /dev/null || $(call debian,rustc valgrind)
 
 # an object and not a whole Rust archive: that one brings a fmod of its own, which would be linked in the C library's place
-$(c_out)/shift.o: bench/shift.rs | $(c_out)
+$(c_out)/shift.o: bench/shift.rs | $(c_out) meters
 	$(RUSTC) -O -C panic=abort --crate-type staticlib --emit obj $< -o $@
 
 $(c_out)/bench: bench/bench.c $(c_out)/shift.o include/zukemoriha.h $(LIB) | $(c_out)
 	$(CC) $(c_flags) $(c_nobuiltin) $< $(c_out)/shift.o $(LIB) -lm -o $@
 
-header:
+header: | tools
 	echo '#include "zukemoriha.h"' | $(CC) -std=c99 $(c_warn) -Werror -Iinclude -fsyntax-only -x c -
 	echo '#include "zukemoriha.h"' | $(CXX) $(c_warn) -Werror -Iinclude -fsyntax-only -x c++ -
 
@@ -75,7 +83,7 @@ examples: $(c_out)/fold_angle $(c_out)/step80
 	$(c_out)/fold_angle | diff examples/fold_angle.out -
 	$(c_out)/step80 | diff examples/step80.out -
 
-outside: header examples $(addprefix $(c_out)/,host readings untouched vectors half fprem libm ldexp)
+outside: header examples install-check $(addprefix $(c_out)/,host readings untouched vectors half fprem libm ldexp)
 	$(c_out)/host
 	$(c_out)/readings
 	$(c_out)/untouched
@@ -98,7 +106,7 @@ outside-half: $(c_out)/half $(c_out)/second
 	$(c_out)/half 1
 	seq 0 4096 65535 | xargs -P $$(nproc) -I FIRST sh -c '$(c_out)/second FIRST $$((FIRST + 4095))'
 
-bench: $(c_out)/bench
+bench: $(c_out)/bench | meters
 	$(c_out)/bench
 	sh bench/callgrind.sh $(c_out)/bench
 
