@@ -1,8 +1,8 @@
 # The C side: header, examples, tests from the outside, measurements, installation.
 # To be included by the Makefile; works alone too: make -f c.mk outside
 #
-#   outside         the quick tests: header, examples, readings, vectors, lent memory, binary16, the processor, the C library (about a minute)
-#   outside-long    the last two with ten million operand pairs a format, then a second C library (musl) and MPFR (some ten minutes)
+#   outside         the quick tests: header, examples, readings, vectors, lent memory, runs, lists, binary16, the processor, the C library (about a minute)
+#   outside-long    runs, the processor and the C library with ten million operand pairs a format, then a second C library (musl) and MPFR
 #   outside-half    all 2^32 pairs of binary16, both kinds, against whole-number division and the second implementation (some 40 minutes)
 #   bench           times and ratios, then instructions by callgrind
 #   bench-lines     the line program against the same job by scanf, fmod and printf
@@ -11,13 +11,14 @@
 #   install-check   installs under target/ and builds an example by pkg-config
 
 LIB ?= target/staticlib/libcapi.a
-VERSION ?= 0.1.0
+VERSION = $(shell sed -n 's/^#define ZK_VERSION "\(.*\)"/\1/p' include/zukemoriha.h)
 PREFIX ?= /usr/local
 CC = gcc
 CXX = g++
 RUSTC ?= rustc
 
 c_out = target/c
+c_archive = $(c_out)/archive.sum
 c_warn = -Wall -Wextra -pedantic
 c_flags = -std=c99 -O2 $(c_warn) -Iinclude
 # what is compared or measured is the C library's function, not what the compiler makes of its name
@@ -25,7 +26,7 @@ c_nobuiltin = $(foreach n,fmod remainder remquo ldexp frexp,-fno-builtin-$(n) -f
 
 debian = { apt-get update && apt-get install -y $(1); }
 
-.PHONY: tools peers meters outside outside-long outside-half bench bench-lines examples header install install-check
+.PHONY: always tools peers meters outside outside-long outside-half bench bench-lines examples header install install-check
 
 # rt proves again what has changed. Another LIB is taken as it is.
 target/staticlib/libcapi.a: $(shell find crates -name '*.rt' -o -name '*.antt') crates.txt
@@ -39,23 +40,29 @@ target/staticlib/libsecond.a: $(shell find crates/second -name '*.rt' -o -name '
 $(c_out): | tools
 	mkdir -p $@
 
-$(c_out)/%: tests/%.c tests/calls.h tests/operands.h include/zukemoriha.h $(LIB) | $(c_out)
+# which archive the programs are linked with: another one is another sum, whatever its date
+$(c_archive): $(LIB) always | $(c_out)
+	@sha256sum $(LIB) | cmp -s - $@ || sha256sum $(LIB) > $@
+
+always:
+
+$(c_out)/%: tests/%.c tests/calls.h tests/operands.h include/zukemoriha.h $(c_archive) | $(c_out)
 	$(CC) $(c_flags) $(c_nobuiltin) -Itests $< $(LIB) -lm -o $@
 
-$(c_out)/%: examples/%.c include/zukemoriha.h $(LIB) | $(c_out)
+$(c_out)/%: examples/%.c include/zukemoriha.h $(c_archive) | $(c_out)
 	$(CC) $(c_flags) $< $(LIB) -o $@
 
-$(c_out)/second: tests/second.c include/zukemoriha.h $(LIB) target/staticlib/libsecond.a | $(c_out)
+$(c_out)/second: tests/second.c include/zukemoriha.h $(c_archive) target/staticlib/libsecond.a | $(c_out)
 	$(CC) $(c_flags) $< $(LIB) target/staticlib/libsecond.a -o $@
 
-$(c_out)/host: tests/host.cc include/zukemoriha.h $(LIB) | $(c_out)
+$(c_out)/host: tests/host.cc include/zukemoriha.h $(c_archive) | $(c_out)
 	$(CXX) -O2 $(c_warn) -Iinclude $< $(LIB) -o $@
 
 # a second C library: the same programs, linked with it
-$(c_out)/%-musl: tests/%.c tests/calls.h tests/operands.h include/zukemoriha.h $(LIB) | $(c_out) peers
+$(c_out)/%-musl: tests/%.c tests/calls.h tests/operands.h include/zukemoriha.h $(c_archive) | $(c_out) peers
 	musl-gcc -static $(c_flags) $(c_nobuiltin) -Itests $< $(LIB) -lm -o $@
 
-$(c_out)/mpfr: tests/mpfr.c tests/calls.h tests/operands.h include/zukemoriha.h $(LIB) | $(c_out) peers
+$(c_out)/mpfr: tests/mpfr.c tests/calls.h tests/operands.h include/zukemoriha.h $(c_archive) | $(c_out) peers
 	$(CC) $(c_flags) -Itests $< $(LIB) -lmpfr -lgmp -o $@
 
 # what the quick part, the long part and the measurements need beyond the kit: Debian's packages, where something is missing
@@ -72,7 +79,7 @@ meters:
 $(c_out)/shift.o: bench/shift.rs | $(c_out) meters
 	$(RUSTC) -O -C panic=abort --crate-type staticlib --emit obj $< -o $@
 
-$(c_out)/bench: bench/bench.c $(c_out)/shift.o include/zukemoriha.h $(LIB) | $(c_out)
+$(c_out)/bench: bench/bench.c $(c_out)/shift.o include/zukemoriha.h $(c_archive) | $(c_out)
 	$(CC) $(c_flags) $(c_nobuiltin) $< $(c_out)/shift.o $(LIB) -lm -o $@
 
 header: | tools
@@ -83,17 +90,20 @@ examples: $(c_out)/fold_angle $(c_out)/step80
 	$(c_out)/fold_angle | diff examples/fold_angle.out -
 	$(c_out)/step80 | diff examples/step80.out -
 
-outside: header examples install-check $(addprefix $(c_out)/,host readings untouched vectors half fprem libm ldexp)
+outside: header examples install-check $(addprefix $(c_out)/,host readings untouched vectors chains fold half fprem libm ldexp)
 	$(c_out)/host
 	$(c_out)/readings
 	$(c_out)/untouched
 	$(c_out)/vectors
+	$(c_out)/chains
+	$(c_out)/fold
 	$(c_out)/half
 	$(c_out)/fprem
 	$(c_out)/libm
 	$(c_out)/ldexp
 
-outside-long: $(addprefix $(c_out)/,fprem libm ldexp libm-musl ldexp-musl mpfr)
+outside-long: $(addprefix $(c_out)/,chains fprem libm ldexp libm-musl ldexp-musl mpfr)
+	$(c_out)/chains 10000000 2
 	$(c_out)/fprem 10000000 2
 	$(c_out)/libm 10000000 2
 	$(c_out)/ldexp 10000000 2
@@ -120,6 +130,7 @@ install: $(LIB)
 	install -m 644 $(LIB) $(DESTDIR)$(PREFIX)/lib/libzukemoriha.a
 	install -m 644 include/zukemoriha.h $(DESTDIR)$(PREFIX)/include/zukemoriha.h
 	sed 's|@PREFIX@|$(abspath $(PREFIX))|; s|@VERSION@|$(VERSION)|' zukemoriha.pc.in > $(DESTDIR)$(PREFIX)/lib/pkgconfig/zukemoriha.pc
+	chmod 644 $(DESTDIR)$(PREFIX)/lib/pkgconfig/zukemoriha.pc
 
 install-check: | $(c_out)
 	$(MAKE) -f $(firstword $(MAKEFILE_LIST)) install PREFIX=$(c_out)/prefix DESTDIR= LIB=$(LIB)

@@ -16,6 +16,8 @@
  *     what it is lent for, also where a length is 0; and no two lent places overlap.
  *   - No function keeps a pointer, uses a status word or a rounding mode, or has state: calls from many threads do not meet.
  *
+ * The archive is compiled for x86-64 Linux.
+ *
  * The remainder of x by y is x - Q*y with Q the quotient |x|/|y|, cut (truncated) or rounded to nearest, a half to the even one (nearest),
  * with the sign of x/y. It is exact. A zero result has the sign of x. Quotient bits are those of |Q| modulo 8. By an infinite y a finite x
  * is returned as it is, with quotient bits 0.
@@ -27,6 +29,8 @@
 #include <stddef.h>
 #include <stdint.h>
 #include <string.h>
+
+#define ZK_VERSION "0.1.0"
 
 #ifdef __cplusplus
 extern "C" {
@@ -165,7 +169,7 @@ static inline double zk_double_of_pattern(uint64_t pattern) {
 }
 
 /* Only where long double is the x87 format, in its order in memory. */
-#if LDBL_MANT_DIG == 64 && (defined(__x86_64__) || defined(__i386__))
+#if LDBL_MANT_DIG == 64 && defined(__x86_64__)
 #define ZK_LONG_DOUBLE_IS_X87 1
 static inline uint64_t zk_significand_of_long_double(long double x) {
     uint64_t significand;

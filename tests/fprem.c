@@ -201,7 +201,7 @@ static void compare_pairs(uint64_t pairs, uint64_t *state) {
            " with n = 32 + D mod 32\n",
            count.chains, count.finished, count.partial, count.usual);
     printf("  refused by both %" PRIu64 ", pseudo-denormals not compared %" PRIu64 "\n", count.refused, count.skipped);
-    print_coverage(&seen);
+    print_coverage(&seen, X87);
 }
 
 /* Powers of every size, most of them around the ends of the format, where rounding and infinities are. */
@@ -223,7 +223,7 @@ static struct pattern any_operand(uint64_t *state) {
 }
 
 static void compare_scaling(uint64_t cases, uint64_t *state) {
-    uint64_t i, rounded = 0, refused = 0;
+    uint64_t i, compared = 0, rounded = 0, refused = 0;
     for (i = 0; i < cases; i++) {
         struct pattern x = any_operand(state);
         int32_t power = any_power(x, state);
@@ -233,6 +233,7 @@ static void compare_scaling(uint64_t cases, uint64_t *state) {
         int says, right;
         if (is_pseudo_denormal(x))
             continue;
+        compared++;
         theirs = processor_scale(x, power, &c);
         ours = call_scale(X87, x, power);
         says = !c.inexact ? ZK_EXACT : c.c1 ? ZK_UP : ZK_DOWN;
@@ -247,7 +248,7 @@ static void compare_scaling(uint64_t cases, uint64_t *state) {
             printf("scaling of %s by %ld:\n  zukemoriha %s says %d number %u\n  processor  %s says %d\n", text(X87, x), (long)power,
                    text(X87, ours.value), ours.says, ours.number, text(X87, theirs), says);
     }
-    printf("scaling: %" PRIu64 " cases, %" PRIu64 " rounded, %" PRIu64 " refused by both\n", cases, rounded, refused);
+    printf("scaling: %" PRIu64 " cases, %" PRIu64 " rounded, %" PRIu64 " refused by both\n", compared, rounded, refused);
 }
 
 /* Only nonzero finite values: FXTRACT answers zeros and infinities otherwise than document 01. */
@@ -266,8 +267,7 @@ static void compare_splitting(uint64_t cases, uint64_t *state) {
 }
 
 int main(int argc, char **argv) {
-    uint64_t pairs = argc > 1 ? strtoull(argv[1], NULL, 10) : 1000000;
-    uint64_t state = argc > 2 ? strtoull(argv[2], NULL, 10) : 1;
+    uint64_t pairs = pairs_asked(argc, argv, 1000000), state = seed_asked(argc, argv);
     compare_pairs(pairs, &state);
     compare_scaling(pairs, &state);
     compare_splitting(pairs, &state);

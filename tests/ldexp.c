@@ -1,6 +1,7 @@
 /*
  * Scaling and splitting against the C library's ldexp and frexp, for binary64, binary32 and x87 (long double). What scaling says of its
- * rounding is held to the result scaled back: a power that lowers a value loses bits, and the way back loses none.
+ * rounding is held to the result scaled back: a power that lowers a value loses bits, and the way back loses none. binary16, which C has no
+ * type for, is scaled as a double that counts its smallest place, and rounded by rint.
  *
  *   ldexp [CASES [SEED]]    CASES of each for each format
  */
@@ -65,12 +66,47 @@ static struct pattern of_long_double(long double x) {
 ASK(ask80, long double, ldexpl, frexpl, long_double_of, of_long_double)
 #endif
 
+/* The binary16 pattern of a count of its smallest place that it holds, or of infinity from 2^40 on. */
+static struct pattern of_count(double count) {
+    struct operand o;
+    int exponent;
+    if (fabs(count) >= 1099511627776.0)
+        return infinity(BINARY16, count < 0);
+    if (count == 0)
+        return signed_pattern(BINARY16, signbit(count) != 0, 0, 0);
+    o.significand = (uint64_t)ldexp(frexp(fabs(count), &exponent), 64);
+    o.exponent = exponent - 1 + formats[BINARY16].smallest;
+    o.negative = count < 0;
+    return encode(BINARY16, o);
+}
+
+static double count_of(struct pattern x) {
+    int fraction = (int)(x.bits & 1023), field = (int)(x.bits >> 10 & 31);
+    double count = field == 31 ? (fraction ? NAN : INFINITY) : field ? ldexp(1024 + fraction, field - 1) : fraction;
+    return is_negative(BINARY16, x) ? -count : count;
+}
+
+/* A whole number of places is rounded to nothing else than itself, so that rint rounds only what falls below the smallest place. */
+static struct theirs ask16(struct pattern px, int power) {
+    double x = count_of(px), exact = ldexp(x, power), scaled = rint(exact);
+    struct theirs c;
+    c.significand = of_count(ldexp(frexp(x, &c.exponent), 1 - formats[BINARY16].smallest));
+    c.exponent += formats[BINARY16].smallest - 1;
+    c.scaled = of_count(scaled);
+    c.scale_number = isnan(x) ? ZK_NAN : ZK_FINISHED;
+    c.split_number = isnan(x) ? ZK_NAN : isinf(x) ? ZK_INFINITE : x == 0 ? ZK_ZERO_SPLIT : ZK_FINISHED;
+    c.says = isinf(x) || x == 0 ? ZK_EXACT : fabs(scaled) >= 1099511627776.0 || fabs(scaled) > fabs(exact) ? ZK_UP
+             : scaled == exact  ? ZK_EXACT
+                                : ZK_DOWN;
+    return c;
+}
+
 static struct theirs ask(int f, struct pattern x, int power) {
 #ifdef ZK_LONG_DOUBLE_IS_X87
     if (f == X87)
         return ask80(x, power);
 #endif
-    return f == BINARY64 ? ask64(x, power) : ask32(x, power);
+    return f == BINARY64 ? ask64(x, power) : f == BINARY32 ? ask32(x, power) : ask16(x, power);
 }
 
 /* A power that takes x near the end of the range or the smallest place, or any that the format can tell from a larger one. */
@@ -129,10 +165,10 @@ static void compare_format(int f, uint64_t cases, uint64_t seed) {
 }
 
 int main(int argc, char **argv) {
-    uint64_t cases = argc > 1 ? strtoull(argv[1], NULL, 10) : 1000000;
-    uint64_t seed = argc > 2 ? strtoull(argv[2], NULL, 10) : 1;
-    compare_format(BINARY64, cases, seed);
+    uint64_t cases = pairs_asked(argc, argv, 1000000), seed = seed_asked(argc, argv);
+    compare_format(BINARY16, cases, seed);
     compare_format(BINARY32, cases, seed);
+    compare_format(BINARY64, cases, seed);
 #ifdef ZK_LONG_DOUBLE_IS_X87
     compare_format(X87, cases, seed);
 #else

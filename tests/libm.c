@@ -123,12 +123,11 @@ static void compare_format(int f, uint64_t pairs, uint64_t seed) {
     if (disputed)
         printf("; the C library's remainder is not its remquo in %" PRIu64 ", decided by IEEE 754", disputed);
     printf("\n");
-    print_coverage(&seen);
+    print_coverage(&seen, f);
 }
 
 int main(int argc, char **argv) {
-    uint64_t pairs = argc > 1 ? strtoull(argv[1], NULL, 10) : 2000000;
-    uint64_t seed = argc > 2 ? strtoull(argv[2], NULL, 10) : 1;
+    uint64_t pairs = pairs_asked(argc, argv, 2000000), seed = seed_asked(argc, argv);
     compare_format(BINARY64, pairs, seed);
     compare_format(BINARY32, pairs, seed);
 #ifdef ZK_LONG_DOUBLE_IS_X87

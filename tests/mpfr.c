@@ -83,12 +83,11 @@ static void compare_format(int f, uint64_t pairs, uint64_t seed) {
     }
     mpfr_clears(x, y, r, (mpfr_ptr)0);
     printf("%s: %" PRIu64 " pairs, both kinds\n", formats[f].name, compared);
-    print_coverage(&seen);
+    print_coverage(&seen, f);
 }
 
 int main(int argc, char **argv) {
-    uint64_t pairs = argc > 1 ? strtoull(argv[1], NULL, 10) : 1000000;
-    uint64_t seed = argc > 2 ? strtoull(argv[2], NULL, 10) : 1;
+    uint64_t pairs = pairs_asked(argc, argv, 1000000), seed = seed_asked(argc, argv);
     int f;
     printf("MPFR %s\n", mpfr_get_version());
     for (f = 0; f < FORMATS; f++)

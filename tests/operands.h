@@ -270,13 +270,36 @@ static inline void cover(struct coverage *c, int f, struct pair p) {
         c->bands[BANDS]++;
 }
 
-static inline void print_coverage(const struct coverage *c) {
+/* Whether the format has a gap in the band. */
+static inline int has_band(int f, int band) {
+    return band == LARGEST || band <= band_of(f, largest_gap(f) - 1);
+}
+
+/* A band that the format has and no pair fell into would leave the comparison with a hole: it counts as a difference. */
+static inline void print_coverage(const struct coverage *c, int f) {
     int b;
     printf("  gaps:");
-    for (b = 0; b < BANDS; b++)
+    for (b = 0; b < BANDS; b++) {
         if (c->bands[b])
             printf(" %s %" PRIu64 ",", band_names[b], c->bands[b]);
+        else if (has_band(f, b) && differs())
+            printf(" %s has no pair,", band_names[b]);
+    }
     printf(" none %" PRIu64 "\n", c->bands[BANDS]);
+}
+
+/* The arguments of a comparison: how many cases, and the seed of their sequence. */
+static inline uint64_t pairs_asked(int argc, char **argv, uint64_t otherwise) {
+    uint64_t n = argc > 1 ? strtoull(argv[1], NULL, 10) : otherwise;
+    if (n == 0) {
+        fprintf(stderr, "%s: how many cases is a whole number above 0\n", argv[0]);
+        exit(2);
+    }
+    return n;
+}
+
+static inline uint64_t seed_asked(int argc, char **argv) {
+    return argc > 2 ? strtoull(argv[2], NULL, 10) : 1;
 }
 
 #endif

@@ -24,6 +24,10 @@ int main(int argc, char **argv) {
     uint32_t first = argc > 1 ? (uint32_t)strtoul(argv[1], NULL, 10) : 0;
     uint32_t last = argc > 2 ? (uint32_t)strtoul(argv[2], NULL, 10) : 65535;
     uint64_t pairs = 0, different = 0;
+    if (last > 65535 || first > last) {
+        fprintf(stderr, "%s: dividends are from 0 to 65535, the first not above the last\n", argv[0]);
+        return 2;
+    }
     for (uint32_t x = first; x <= last; x++)
         for (uint32_t y = 0; y <= 65535; y++, pairs++)
             for (uint32_t nearest = 0; nearest < 2; nearest++) {

@@ -2,7 +2,10 @@
  * What lent memory holds afterwards: on every refusal what it held before, on an answer exactly what the header says, and nothing beyond.
  * All of it runs twice, with two fillings, so that no byte is right by chance.
  */
+#define _DEFAULT_SOURCE
 #include "calls.h"
+
+#include <sys/mman.h>
 
 static uint64_t checks;
 
@@ -57,12 +60,14 @@ static const struct pattern samples[FORMATS][CLASSES] = {
      {UINT64_C(0x8000000000000000), 0x3FFF}},
 };
 
-/* All four ways in which an x87 pattern is unsupported. */
+/* All four ways in which an x87 pattern is unsupported, with either sign. */
 static const struct pattern unsupported[] = {
-    {UINT64_C(0x8000000000000000), 0},      /* e = 0 with J = 1 */
-    {UINT64_C(0x4000000000000000), 0x3FFF}, /* J = 0 */
-    {0, 0x7FFF},                            /* an infinity with J = 0 */
-    {UINT64_C(0x4000000000000000), 0xFFFF}, /* a NaN with J = 0 */
+    {UINT64_C(0x8000000000000000), 0},      {UINT64_C(0x8000000000000001), 0x8000}, /* e = 0 with J = 1 */
+    {UINT64_C(0xFFFFFFFFFFFFFFFF), 0x8000}, {UINT64_C(0xC000000000000000), 0},
+    {UINT64_C(0x4000000000000000), 0x3FFF}, {UINT64_C(0x7FFFFFFFFFFFFFFF), 0x8001}, /* J = 0 */
+    {0, 0x7FFE},                            {1, 0xFFFE},
+    {0, 0x7FFF},                            {0, 0xFFFF}, /* an infinity with J = 0 */
+    {UINT64_C(0x4000000000000000), 0xFFFF}, {1, 0x7FFF}, /* a NaN with J = 0 */
 };
 
 static int first_class(int f) {
@@ -99,8 +104,8 @@ static void remainders(void) {
 
 /* The same for step and run, with every length and size that is refused before the operands are looked at. */
 static void steps_of(struct pattern x, struct pattern y, int number) {
-    static const size_t lengths[] = {0, 15, 16, 17, 32};
-    static const uint32_t sizes[] = {0, 31, 32, 63, 64, UINT32_MAX};
+    static const size_t lengths[] = {0, 15, 16, 17, 32, 256, 272, 65552};
+    static const uint32_t sizes[] = {0, 31, 32, 63, 64, 256 + 40, 65536 + 40, UINT32_C(0x80000000) + 40, UINT32_MAX};
     size_t l, s;
     for (l = 0; l < sizeof lengths / sizeof *lengths; l++)
         for (s = 0; s < sizeof sizes / sizeof *sizes; s++) {
@@ -125,9 +130,27 @@ static void steps(void) {
             if (x != NORMAL || y != DENORMAL)
                 steps_of(samples[X87][x], samples[X87][y], number_of(x, y));
     for (i = 0; i < sizeof unsupported / sizeof *unsupported; i++) {
+        struct reply dividend = call_rem(X87, unsupported[i], samples[X87][NORMAL], ZK_TRUNCATED);
+        struct reply divisor = call_rem(X87, samples[X87][NAN_QUIET], unsupported[i], ZK_NEAREST);
+        check(dividend.number == ZK_UNSUPPORTED && !dividend.touched, "an unsupported dividend", X87);
+        check(divisor.number == ZK_UNSUPPORTED && !divisor.touched, "an unsupported divisor", X87);
         steps_of(unsupported[i], samples[X87][NORMAL], ZK_UNSUPPORTED);
         steps_of(samples[X87][NAN_QUIET], unsupported[i], ZK_UNSUPPORTED);
     }
+}
+
+/* A block of 2^32 + 16 bytes, none of which is written, so that the system need not have them. */
+static void long_block(void) {
+    const size_t length = ((size_t)1 << 32) + ZK_BLOCK_LENGTH;
+    struct pattern x = samples[X87][NORMAL];
+    uint8_t *block = (uint8_t *)mmap(NULL, length, PROT_READ | PROT_WRITE, MAP_PRIVATE | MAP_ANONYMOUS | MAP_NORESERVE, -1, 0);
+    if (block == MAP_FAILED) {
+        printf("no room for a long block: not tried\n");
+        return;
+    }
+    check_number(zk_step80(x.bits, x.word, x.bits, x.word, 32, 0, block, length), ZK_BAD_LENGTH, "a step with a long block", X87);
+    check_number(zk_run80(x.bits, x.word, x.bits, x.word, 32, 0, 1, block, length), ZK_BAD_LENGTH, "a run with a long block", X87);
+    munmap(block, length);
 }
 
 static void scalings_and_splits(void) {
@@ -332,6 +355,7 @@ static void scaled_values(void) {
 static void everything(void) {
     remainders();
     steps();
+    long_block();
     scalings_and_splits();
     folds();
     blocks();
