@@ -1,16 +1,12 @@
 // Runs the library and the second implementation side by side: on the readings that document 01 prints, on the vectors, and on a
 // generated sequence. Writes counts, and every difference with both answers, so that what it writes is then not what is stored.
-mod print; // print.rt: calls, answers and numbers as text
-mod compare; // compare.rt: answers side by side
 mod printed; // printed.rt: readings 1 to 12
-mod read; // read.rt: the fields of a line
-mod vectors; // vectors.rt: the files
 mod sequence; // sequence.rt: the generated sequence
 mod table; // table.rt: its counts
 
 use comparison::call::Format;
-use vectors::Layout;
-use vectors::file;
+use vectors::layouts::Layout;
+use vectors::layouts::file;
 
 fn remainders() {
     file(b"rem-binary16.txt", Layout::Remainders, Format::Binary16);

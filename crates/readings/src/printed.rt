@@ -1,11 +1,11 @@
 // Readings 1 to 12 as document 01 prints them, in the layout of the vectors, held to both implementations.
-use crate::print;
-use crate::vectors::Layout;
-use crate::vectors::lines;
 use comparison::call::Format;
 use comparison::counts;
 use comparison::counts::Counts;
 use comparison::counts::total;
+use vectors::layouts::Layout;
+use vectors::layouts::lines;
+use vectors::print;
 
 // 1 to 6: 5.5, 5 and 7 by 2, -6 by 3, 2^75 by 2^-75, two by three of the smallest denormal. 5 by 2 is printed for nearest alone.
 fn remainders(counts: &mut Counts) {

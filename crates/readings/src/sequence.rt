@@ -1,6 +1,4 @@
 // A generated sequence of pairs, on which the two implementations are compared.
-use crate::compare::compare;
-use crate::read::signed;
 use comparison::bands::note_pair;
 use comparison::bands::sort;
 use comparison::call::Format;
@@ -13,6 +11,8 @@ use comparison::counts::count;
 use comparison::pairs::pair_of;
 use comparison::patterns::shape_of;
 use definitions::Extended;
+use vectors::compare::compare;
+use vectors::read::signed;
 
 pub const PAIRS: u64 = 100_000;
 

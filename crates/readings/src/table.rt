@@ -1,6 +1,4 @@
 // The counts of the sequence, line by line.
-use crate::print;
-use crate::read::line_end;
 use crate::sequence::PAIRS;
 use crate::sequence::judge_all;
 use comparison::call::Format;
@@ -8,6 +6,8 @@ use comparison::counts;
 use comparison::counts::Counts;
 use comparison::counts::counted;
 use comparison::counts::total;
+use vectors::print;
+use vectors::read::line_end;
 
 fn columns(counts: &Counts, row: usize) {
     print::text(b":");

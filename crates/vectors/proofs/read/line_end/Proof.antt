@@ -1,9 +1,9 @@
--- `readings::read::line_end` meets its contract: the place stays within the text. Assumes nothing.
+-- `vectors::read::line_end` meets its contract: the place stays within the text. Assumes nothing.
 use Prim.Native.Nat.{_-_, _≤_}
 use lib.ListN.{length}
 use borrow.Author.Needs.{needs}
-use Rattle.readings.proofs.read.line_end.Statement.{statement}
-use Rattle.readings.proofs.read.line_end.Tie as tie
+use Rattle.vectors.proofs.read.line_end.Statement.{statement}
+use Rattle.vectors.proofs.read.line_end.Tie as tie
 
 abbrev Inv-loop : tie.InvT-loop
 Inv-loop text from at₀ at = (from ≤ at) × (at ≤ length text)

@@ -1,4 +1,4 @@
--- `readings::print::magnitude` is safe: a number from 0 up, and the complement of a negative one, fit. Assumes nothing.
+-- `vectors::print::magnitude` is safe: a number from 0 up, and the complement of a negative one, fit. Assumes nothing.
 use mathlib.Core.Path.{_≡_, sym, subst}
 use mathlib.Core.Bool.{true, false}
 use Prim.Native.Nat.{_-_, _<_}
@@ -11,8 +11,8 @@ use mir.Val.{toZ, ofZ, SFits}
 use mir.ValLaws.{toZ-ofZ, toZ-pos}
 use borrow.Author.Tests.{ltb-true}
 use borrow.Author.Needs.{needs}
-use Rattle.readings.proofs.print.magnitude.Statement.{statement}
-use Rattle.readings.proofs.print.magnitude.Tie as tie
+use Rattle.vectors.proofs.print.magnitude.Statement.{statement}
+use Rattle.vectors.proofs.print.magnitude.Tie as tie
 
 below : (n : ℤ) → SFits w32 n → ltZ n (pos 0) ≡ true → 4294967295 - ofZ w32 n < 2147483648
 below (pos n) f e = omega (arith, ltb-true n 0 e)

@@ -1,8 +1,8 @@
-// The files of vectors, held to both implementations line by line.
-ghost use mathlib.Core.Path.{_≡_};
-ghost use lib.ListN.{length};
+// The computed vectors, held to both implementations line by line.
 use crate::compare::hold;
-use crate::print;
+use crate::files::read_whole;
+use crate::files::room;
+use crate::files::sum_up;
 use crate::read::line_end;
 use crate::read::number_at;
 use crate::read::pattern_at;
@@ -19,7 +19,6 @@ use comparison::call::scaled;
 use comparison::call::split;
 use comparison::counts;
 use comparison::counts::Counts;
-use comparison::counts::total;
 
 // What a line of a file has.
 pub enum Layout {
@@ -171,31 +170,10 @@ pub fn lines(text: &[u8], layout: Layout, format: Format, counts: &mut Counts) -
     n
 }
 
-// Room for the longest file.
-fn room() -> [u8; 139264]
-    ensures { λ r. ⌜ 139264 ≡ length r ⌝ }
-{
-    [0u8; 139264]
-}
-
-// A file that cannot be read has no lines.
-fn read_lines(path: &[u8], layout: Layout, format: Format, counts: &mut Counts) -> u64 {
-    let fd = os::open_read(path);
-    if fd < 0 {
-        os::fail(path);
-        return 0;
-    }
-    let mut text = room();
-    let n = io::read_full(fd, &mut text);
-    libc::close(fd);
-    lines(&text[..n], layout, format, counts)
-}
-
 pub fn file(path: &[u8], layout: Layout, format: Format) {
     let mut counts = counts::none();
-    let n = read_lines(path, layout, format, &mut counts);
-    print::text(path);
-    print::text(b": ");
-    print::counted(n, b" lines, ");
-    print::counted(total(&counts, counts::DIFFERENT), b" different\n");
+    let mut text = room();
+    let n = read_whole(path, &mut text);
+    let lines = lines(&text[..n], layout, format, &mut counts);
+    sum_up(path, lines, &counts);
 }

@@ -1,9 +1,9 @@
--- `readings::read::number_at` is safe and ends: each turn passes one byte of the text. Assumes nothing.
+-- `vectors::read::number_at` is safe and ends: each turn passes one byte of the text. Assumes nothing.
 use Prim.Native.Nat.{_-_}
 use lib.ListN.{length}
 use borrow.Author.Needs.{needs}
-use Rattle.readings.proofs.read.number_at.Statement.{statement}
-use Rattle.readings.proofs.read.number_at.Tie as tie
+use Rattle.vectors.proofs.read.number_at.Statement.{statement}
+use Rattle.vectors.proofs.read.number_at.Tie as tie
 
 abbrev Inv-loop : tie.InvT-loop
 Inv-loop text from negative₀ magnitude₀ at₀ negative magnitude at = Unit {0}

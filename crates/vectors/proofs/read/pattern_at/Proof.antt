@@ -1,9 +1,9 @@
--- `readings::read::pattern_at` is safe and ends: each turn passes one byte of the text. Assumes nothing.
+-- `vectors::read::pattern_at` is safe and ends: each turn passes one byte of the text. Assumes nothing.
 use Prim.Native.Nat.{_-_}
 use lib.ListN.{length}
 use borrow.Author.Needs.{needs}
-use Rattle.readings.proofs.read.pattern_at.Statement.{statement}
-use Rattle.readings.proofs.read.pattern_at.Tie as tie
+use Rattle.vectors.proofs.read.pattern_at.Statement.{statement}
+use Rattle.vectors.proofs.read.pattern_at.Tie as tie
 
 abbrev Inv-loop : tie.InvT-loop
 Inv-loop text from word₀ significand₀ at₀ word significand at = Unit {0}

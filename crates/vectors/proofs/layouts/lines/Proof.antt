@@ -1,9 +1,9 @@
--- `readings::vectors::lines` is safe and ends: each line begins behind the one before it. Assumes nothing.
+-- `vectors::layouts::lines` is safe and ends: each line begins behind the one before it. Assumes nothing.
 use Prim.Native.Nat.{_-_}
 use lib.ListN.{length}
 use borrow.Author.Needs.{needs}
-use Rattle.readings.proofs.vectors.lines.Statement.{statement}
-use Rattle.readings.proofs.vectors.lines.Tie as tie
+use Rattle.vectors.proofs.layouts.lines.Statement.{statement}
+use Rattle.vectors.proofs.layouts.lines.Tie as tie
 
 abbrev Inv-loop : tie.InvT-loop
 Inv-loop text layout format counts₀ n₀ at₀ counts n at = Unit {0}
