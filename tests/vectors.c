@@ -1,7 +1,7 @@
 /*
  * The vector files, every line through the C interface.
  *
- *   vectors [FOLDER]    (tests/vectors)
+ *   vectors [COMPUTED [PUBLISHED]]    the two folders (crates/readings/data crates/published/data)
  *
  * A refused call writes nothing, so of a refusal the number is compared, and that nothing was written; the house NaN that the files print
  * for it is not to be seen from C.
@@ -407,19 +407,19 @@ static long each_format(const char *folder, const char *op, void (*run)(int, cha
 int main(int argc, char **argv) {
     static const char *const published[] = {"published-gcc.txt",    "published-gnulib.txt", "published-golang.txt",
                                             "published-newlib.txt", "published-python.txt", "published-ruby.txt"};
-    const char *folder = argc > 1 ? argv[1] : "tests/vectors";
+    const char *computed = argc > 1 ? argv[1] : "crates/readings/data", *other = argc > 2 ? argv[2] : "crates/published/data";
     long cases = 0;
     size_t i;
-    cases += each_format(folder, "rem", rem_line);
-    cases += each_line(folder, "step-x87.txt", X87, step_line);
-    cases += each_line(folder, "run-x87.txt", X87, run_line);
-    cases += each_line(folder, "list-x87.txt", X87, list_line);
-    cases += each_format(folder, "scale", scale_line);
-    cases += each_format(folder, "split", split_line);
-    cases += each_fold(folder, "fold-binary64.txt");
-    cases += each_line(folder, "known-bad.txt", 0, bad_line);
+    cases += each_format(computed, "rem", rem_line);
+    cases += each_line(computed, "step-x87.txt", X87, step_line);
+    cases += each_line(computed, "run-x87.txt", X87, run_line);
+    cases += each_line(other, "list-x87.txt", X87, list_line);
+    cases += each_format(computed, "scale", scale_line);
+    cases += each_format(computed, "split", split_line);
+    cases += each_fold(other, "fold-binary64.txt");
+    cases += each_line(other, "known-bad.txt", 0, bad_line);
     for (i = 0; i < sizeof published / sizeof *published; i++)
-        cases += each_line(folder, published[i], 0, published_line);
+        cases += each_line(other, published[i], 0, published_line);
     printf("%ld cases in all, %d published ones held to IEEE 754 and not to what they print\n", cases, bad.met);
     return verdict();
 }

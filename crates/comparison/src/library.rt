@@ -57,7 +57,7 @@ fn house_nan(format: Format) -> Extended {
     }
 }
 
-fn plain(pattern: u64) -> Extended {
+pub fn plain(pattern: u64) -> Extended {
     Extended {
         significand: pattern,
         word: 0,
@@ -68,7 +68,7 @@ fn refused(format: Format, why: Refusal) -> Answer {
     divided(number_of(why), house_nan(format), 0, 0)
 }
 
-fn kind_of(nearest: bool) -> Kind {
+pub fn kind_of(nearest: bool) -> Kind {
     if nearest {
         Kind::Nearest
     } else {

@@ -2,6 +2,7 @@
 use crate::print;
 use comparison::call::Answer;
 use comparison::call::Call;
+use comparison::call::Format;
 use comparison::call::same;
 use comparison::counts;
 use comparison::counts::Counts;
@@ -18,7 +19,8 @@ fn differ(call: Call, ours: Answer, whose: &[u8], other: Answer, counts: &mut Co
     print::text(b"\n");
 }
 
-fn agree(call: Call, ours: Answer, whose: &[u8], other: Answer, counts: &mut Counts) {
+// An answer of the library beside another one.
+pub fn agree(call: Call, ours: Answer, whose: &[u8], other: Answer, counts: &mut Counts) {
     if !same(ours, other) {
         differ(call, ours, whose, other, counts);
     }
@@ -38,4 +40,12 @@ pub fn compare(call: Call, counts: &mut Counts) -> Answer {
 pub fn hold(call: Call, given: Answer, counts: &mut Counts) {
     let ours = compare(call, counts);
     agree(call, ours, b", given", given, counts);
+}
+
+// A line that cannot be read is a difference.
+pub fn unreadable(line: &[u8], counts: &mut Counts) {
+    count(counts, counts::DIFFERENT, Format::X87);
+    print::text(b"unreadable: ");
+    print::text(line);
+    print::text(b"\n");
 }

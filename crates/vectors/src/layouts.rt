@@ -10,6 +10,7 @@ use crate::read::signed;
 use crate::read::small;
 use crate::read::word32;
 use comparison::call::Answer;
+use comparison::call::Call;
 use comparison::call::Format;
 use comparison::call::Operation;
 use comparison::call::divided;
@@ -29,41 +30,56 @@ pub enum Layout {
     Splittings,
 }
 
-// x y, truncated value and quotient bits, nearest value and quotient bits, number.
+// A call, or an answer, read from a line, and the place behind it.
+struct CallField {
+    call: Call,
+    next: usize,
+}
+
+struct AnswerField {
+    answer: Answer,
+    next: usize,
+}
+
+// A value and its quotient bits.
+fn value_at(text: &[u8], at: usize) -> AnswerField {
+    let value = pattern_at(text, at);
+    let bits = number_at(text, value.next);
+    AnswerField {
+        answer: divided(0, value.pattern, word32(bits), 0),
+        next: bits.next,
+    }
+}
+
+// Truncated value and quotient bits, nearest value and quotient bits, number.
+fn both_kinds(text: &[u8], at: usize, cut: Call, near: Call, counts: &mut Counts) {
+    let first = value_at(text, at);
+    let last = value_at(text, first.next);
+    let number = small(number_at(text, last.next));
+    let mut a = first.answer;
+    let mut b = last.answer;
+    a.number = number;
+    b.number = number;
+    hold(cut, a, counts);
+    hold(near, b, counts);
+}
+
+// x y, then both kinds.
 fn remainders(text: &[u8], at: usize, format: Format, counts: &mut Counts) {
     let x = pattern_at(text, at);
     let y = pattern_at(text, x.next);
-    let cut = pattern_at(text, y.next);
-    let cut_bits = number_at(text, cut.next);
-    let near = pattern_at(text, cut_bits.next);
-    let near_bits = number_at(text, near.next);
-    let number = number_at(text, near_bits.next);
-    hold(
-        dividing(
-            Operation::Remainder,
-            format,
-            x.pattern,
-            y.pattern,
-            false,
-            0,
-            0,
-        ),
-        divided(small(number), cut.pattern, word32(cut_bits), 0),
-        counts,
+    let cut = dividing(
+        Operation::Remainder,
+        format,
+        x.pattern,
+        y.pattern,
+        false,
+        0,
+        0,
     );
-    hold(
-        dividing(
-            Operation::Remainder,
-            format,
-            x.pattern,
-            y.pattern,
-            true,
-            0,
-            0,
-        ),
-        divided(small(number), near.pattern, word32(near_bits), 0),
-        counts,
-    );
+    let mut near = cut;
+    near.nearest = true;
+    both_kinds(text, y.next, cut, near, counts);
 }
 
 // The end of a line of steps or runs: value number quotient-bits steps.
@@ -75,40 +91,37 @@ fn ending(text: &[u8], at: usize) -> Answer {
     divided(small(number), value.pattern, word32(bits), word32(steps))
 }
 
-// x y size kind, then the ending.
-fn steps(text: &[u8], at: usize, counts: &mut Counts) {
+// The start of such a line: x y size kind.
+fn beginning(text: &[u8], at: usize, operation: Operation) -> CallField {
     let x = pattern_at(text, at);
     let y = pattern_at(text, x.next);
     let size = number_at(text, y.next);
     let kind = number_at(text, size.next);
-    let call = dividing(
-        Operation::Step,
-        Format::X87,
-        x.pattern,
-        y.pattern,
-        kind.magnitude > 0,
-        word32(size),
-        0,
-    );
-    hold(call, ending(text, kind.next), counts);
+    CallField {
+        call: dividing(
+            operation,
+            Format::X87,
+            x.pattern,
+            y.pattern,
+            kind.magnitude > 0,
+            word32(size),
+            0,
+        ),
+        next: kind.next,
+    }
 }
 
-// x y size kind budget, then the ending.
+fn steps(text: &[u8], at: usize, counts: &mut Counts) {
+    let step = beginning(text, at, Operation::Step);
+    hold(step.call, ending(text, step.next), counts);
+}
+
+// With a budget behind the kind.
 fn runs(text: &[u8], at: usize, counts: &mut Counts) {
-    let x = pattern_at(text, at);
-    let y = pattern_at(text, x.next);
-    let size = number_at(text, y.next);
-    let kind = number_at(text, size.next);
-    let budget = number_at(text, kind.next);
-    let call = dividing(
-        Operation::Run,
-        Format::X87,
-        x.pattern,
-        y.pattern,
-        kind.magnitude > 0,
-        word32(size),
-        word32(budget),
-    );
+    let run = beginning(text, at, Operation::Run);
+    let budget = number_at(text, run.next);
+    let mut call = run.call;
+    call.budget = word32(budget);
     hold(call, ending(text, budget.next), counts);
 }
 

@@ -1,0 +1,205 @@
+// Lists of x87 steps and runs, each from the value that the last accepted call gave: x y kind calls, then what they come to.
+//
+// Commas part the calls: s33 is a step of size 33, r63:5 a run of size 63 with budget 5. A b behind a call stands for a block of the wrong
+// length, which only a caller from C can lend: such a call is refused.
+use crate::words::next_word;
+use crate::words::stands;
+use crate::words::until;
+use comparison::call::Answer;
+use comparison::call::Call;
+use comparison::call::Format;
+use comparison::call::Operation;
+use comparison::call::divided;
+use comparison::call::dividing;
+use comparison::counts::Counts;
+use comparison::independent;
+use comparison::library;
+use definitions::Extended;
+use vectors::compare::agree;
+use vectors::compare::unreadable;
+use vectors::read::number_at;
+use vectors::read::pattern_at;
+use vectors::read::small;
+use vectors::read::word32;
+
+// The number of a list none of whose calls was accepted.
+const NONE: u8 = 255;
+
+// What the calls so far come to, in each implementation, in the form of an answer: the last value and number, the steps and the quotient
+// bits added up. It says 1 if the list is finished.
+struct Course {
+    ours: Answer,
+    theirs: Answer,
+}
+
+fn begun(x: Extended) -> Course {
+    let none = divided(NONE, x, 0, 0);
+    Course {
+        ours: none,
+        theirs: none,
+    }
+}
+
+fn is_accepted(number: u8) -> bool {
+    match number {
+        0 | 1 | 7 => true,
+        _ => false,
+    }
+}
+
+fn added(sum: Answer, a: Answer) -> Answer {
+    if !is_accepted(a.number) {
+        return sum;
+    }
+    Answer {
+        number: a.number,
+        value: a.value,
+        word: a.word,
+        quotient: (sum.quotient % 8 + a.quotient % 8) % 8,
+        steps: std::num::wrapping_add_u32(sum.steps, a.steps),
+        says: (a.number == 0) as u8,
+        exponent: 0,
+    }
+}
+
+// The budget stands behind a colon.
+fn budget_behind(line: &[u8], at: usize) -> u32 {
+    if stands(line, std::num::wrapping_sub_usize(at, 1), b":") {
+        word32(number_at(line, at))
+    } else {
+        0
+    }
+}
+
+// The call at a place, with the divisor and the kind of the whole list.
+fn call_at(line: &[u8], at: usize, list: Call, operation: Operation) -> Call {
+    let size = number_at(line, std::num::wrapping_add_usize(at, 1));
+    dividing(
+        operation,
+        Format::X87,
+        list.x,
+        list.y,
+        list.nearest,
+        word32(size),
+        budget_behind(line, size.next),
+    )
+}
+
+fn from_value(call: Call, last: Answer) -> Call {
+    let x = Extended {
+        significand: last.value,
+        word: last.word,
+    };
+    let mut c = call;
+    c.x = x;
+    c
+}
+
+// A call through both implementations.
+fn called(call: Call, course: Course, counts: &mut Counts) -> Course {
+    let ours = course.ours;
+    let theirs = course.theirs;
+    let mine = from_value(call, ours);
+    let a = library::answer(mine);
+    let b = independent::answer(from_value(call, theirs));
+    agree(mine, a, b", second", b, counts);
+    Course {
+        ours: added(ours, a),
+        theirs: added(theirs, b),
+    }
+}
+
+// A list ends at its first 0.
+fn turn(
+    line: &[u8],
+    at: usize,
+    end: usize,
+    list: Call,
+    course: Course,
+    counts: &mut Counts,
+) -> Course {
+    let ours = course.ours;
+    if ours.says == 1 {
+        return course;
+    }
+    if stands(line, std::num::wrapping_sub_usize(end, 1), b"b") {
+        return course;
+    }
+    if stands(line, at, b"s") {
+        return called(call_at(line, at, list, Operation::Step), course, counts);
+    }
+    if stands(line, at, b"r") {
+        return called(call_at(line, at, list, Operation::Run), course, counts);
+    }
+    unreadable(line, counts);
+    course
+}
+
+fn follow(line: &[u8], from: usize, list: Call, counts: &mut Counts) -> Answer {
+    let mut course = begun(list.x);
+    let mut at = from;
+    while at < line.len() {
+        let end = until(line, at, b',', b' ');
+        course = turn(line, at, end, list, course, counts);
+        if !stands(line, end, b",") {
+            break;
+        }
+        at = end + 1;
+    }
+    course.ours
+}
+
+fn came_to(line: &[u8], at: usize, list: Call, counts: &mut Counts) -> Answer {
+    if stands(line, at, b"- ") {
+        return divided(NONE, list.x, 0, 0);
+    }
+    follow(line, at, list, counts)
+}
+
+fn number(line: &[u8], at: usize) -> u8 {
+    if stands(line, at, b"- ") {
+        NONE
+    } else {
+        small(number_at(line, at))
+    }
+}
+
+// The end of a line: last value, last number or '-', steps, quotient bits, finished.
+fn ending(line: &[u8], at: usize) -> Answer {
+    let value = pattern_at(line, at);
+    let steps = number_at(line, next_word(line, value.next));
+    let bits = number_at(line, steps.next);
+    let finished = number_at(line, bits.next);
+    let mut a = divided(
+        number(line, value.next),
+        value.pattern,
+        word32(bits),
+        word32(steps),
+    );
+    a.says = small(finished);
+    a
+}
+
+pub fn case(line: &[u8], counts: &mut Counts) {
+    let x = pattern_at(line, 0);
+    let y = pattern_at(line, x.next);
+    let kind = number_at(line, y.next);
+    let calls = kind.next;
+    let list = dividing(
+        Operation::Run,
+        Format::X87,
+        x.pattern,
+        y.pattern,
+        kind.magnitude > 0,
+        0,
+        0,
+    );
+    let ours = came_to(line, calls, list, counts);
+    agree(
+        list,
+        ours,
+        b", given",
+        ending(line, next_word(line, calls)),
+        counts,
+    );
+}

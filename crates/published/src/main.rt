@@ -1,0 +1,79 @@
+// Runs the library and the second implementation side by side on the cases that other projects print in their test suites, on lists of
+// calls, and on lists of binary64 values. Writes counts, and every difference with both answers, so that what it writes is then not what
+// is stored.
+mod words; // words.rt: the words of a line
+mod bad; // bad.rt: published cases that are wrong
+mod suites; // suites.rt: published cases
+mod calls; // calls.rt: lists of calls
+mod folds; // folds.rt: lists of values
+
+use comparison::counts;
+use comparison::counts::Counts;
+use vectors::files::read_whole;
+use vectors::files::room;
+use vectors::files::sum_up;
+use vectors::read::line_end;
+
+// What a line of a file has.
+enum Layout {
+    Published,
+    Calls,
+}
+
+fn case(line: &[u8], layout: Layout, bad: &[u8], counts: &mut Counts) {
+    match layout {
+        Layout::Published => suites::case(line, bad, counts),
+        Layout::Calls => calls::case(line, counts),
+    }
+}
+
+// Every line but comments, and how many there are.
+fn lines(text: &[u8], layout: Layout, bad: &[u8], counts: &mut Counts) -> u64 {
+    let mut n: u64 = 0;
+    let mut at: usize = 0;
+    while at < text.len() {
+        let end = line_end(text, at);
+        if text[at] != b'#' {
+            case(&text[at..end], layout, bad, counts);
+            n = std::num::wrapping_add_u64(n, 1);
+        }
+        at = end + 1;
+    }
+    n
+}
+
+fn file(path: &[u8], layout: Layout, bad: &[u8]) {
+    let mut counts = counts::none();
+    let mut text = room();
+    let n = read_whole(path, &mut text);
+    let lines = lines(&text[..n], layout, bad, &mut counts);
+    sum_up(path, lines, &counts);
+}
+
+fn fold_file() {
+    let path = b"fold-binary64.txt";
+    let mut counts = counts::none();
+    let mut text = room();
+    let n = read_whole(path, &mut text);
+    let lines = folds::lines(&text[..n], &mut counts);
+    sum_up(path, lines, &counts);
+}
+
+// The bad cases stand in their project's file too.
+fn published_files(bad: &[u8]) {
+    file(b"known-bad.txt", Layout::Published, bad);
+    file(b"published-gcc.txt", Layout::Published, bad);
+    file(b"published-gnulib.txt", Layout::Published, bad);
+    file(b"published-golang.txt", Layout::Published, bad);
+    file(b"published-newlib.txt", Layout::Published, bad);
+    file(b"published-python.txt", Layout::Published, bad);
+    file(b"published-ruby.txt", Layout::Published, bad);
+}
+
+fn main() {
+    let mut bad = room();
+    let n = read_whole(b"known-bad.txt", &mut bad);
+    published_files(&bad[..n]);
+    file(b"list-x87.txt", Layout::Calls, b"");
+    fold_file();
+}
