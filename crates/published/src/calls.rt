@@ -12,10 +12,9 @@ use comparison::call::Operation;
 use comparison::call::divided;
 use comparison::call::dividing;
 use comparison::counts::Counts;
-use comparison::independent;
-use comparison::library;
 use definitions::Extended;
 use vectors::compare::agree;
+use vectors::compare::compare;
 use vectors::compare::unreadable;
 use vectors::read::number_at;
 use vectors::read::pattern_at;
@@ -25,21 +24,6 @@ use vectors::read::word32;
 // The number of a list none of whose calls was accepted.
 const NONE: u8 = 255;
 
-// What the calls so far come to, in each implementation, in the form of an answer: the last value and number, the steps and the quotient
-// bits added up. It says 1 if the list is finished.
-struct Course {
-    ours: Answer,
-    theirs: Answer,
-}
-
-fn begun(x: Extended) -> Course {
-    let none = divided(NONE, x, 0, 0);
-    Course {
-        ours: none,
-        theirs: none,
-    }
-}
-
 fn is_accepted(number: u8) -> bool {
     match number {
         0 | 1 | 7 => true,
@@ -47,6 +31,8 @@ fn is_accepted(number: u8) -> bool {
     }
 }
 
+// What the calls so far come to, in the form of an answer: the last value and number, the steps and the quotient bits added up. It says 1
+// if the list is finished.
 fn added(sum: Answer, a: Answer) -> Answer {
     if !is_accepted(a.number) {
         return sum;
@@ -85,28 +71,15 @@ fn call_at(line: &[u8], at: usize, list: Call, operation: Operation) -> Call {
     )
 }
 
-fn from_value(call: Call, last: Answer) -> Call {
-    let x = Extended {
-        significand: last.value,
-        word: last.word,
+// Through both implementations from one value: it is the last of each as long as no answer differs.
+fn called(call: Call, sum: Answer, counts: &mut Counts) -> Answer {
+    let last = Extended {
+        significand: sum.value,
+        word: sum.word,
     };
     let mut c = call;
-    c.x = x;
-    c
-}
-
-// A call through both implementations.
-fn called(call: Call, course: Course, counts: &mut Counts) -> Course {
-    let ours = course.ours;
-    let theirs = course.theirs;
-    let mine = from_value(call, ours);
-    let a = library::answer(mine);
-    let b = independent::answer(from_value(call, theirs));
-    agree(mine, a, b", second", b, counts);
-    Course {
-        ours: added(ours, a),
-        theirs: added(theirs, b),
-    }
+    c.x = last;
+    added(sum, compare(c, counts))
 }
 
 // A list ends at its first 0.
@@ -115,38 +88,37 @@ fn turn(
     at: usize,
     end: usize,
     list: Call,
-    course: Course,
+    sum: Answer,
     counts: &mut Counts,
-) -> Course {
-    let ours = course.ours;
-    if ours.says == 1 {
-        return course;
+) -> Answer {
+    if sum.says == 1 {
+        return sum;
     }
     if stands(line, std::num::wrapping_sub_usize(end, 1), b"b") {
-        return course;
+        return sum;
     }
     if stands(line, at, b"s") {
-        return called(call_at(line, at, list, Operation::Step), course, counts);
+        return called(call_at(line, at, list, Operation::Step), sum, counts);
     }
     if stands(line, at, b"r") {
-        return called(call_at(line, at, list, Operation::Run), course, counts);
+        return called(call_at(line, at, list, Operation::Run), sum, counts);
     }
     unreadable(line, counts);
-    course
+    sum
 }
 
 fn follow(line: &[u8], from: usize, list: Call, counts: &mut Counts) -> Answer {
-    let mut course = begun(list.x);
+    let mut sum = divided(NONE, list.x, 0, 0);
     let mut at = from;
     while at < line.len() {
         let end = until(line, at, b',', b' ');
-        course = turn(line, at, end, list, course, counts);
+        sum = turn(line, at, end, list, sum, counts);
         if !stands(line, end, b",") {
             break;
         }
         at = end + 1;
     }
-    course.ours
+    sum
 }
 
 fn came_to(line: &[u8], at: usize, list: Call, counts: &mut Counts) -> Answer {

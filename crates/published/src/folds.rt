@@ -3,6 +3,7 @@ ghost use mathlib.Core.Path.{_≡_};
 ghost use Prim.Native.Nat.{_≤_};
 ghost use lib.ListN.{length};
 use crate::words::next_word;
+use crate::words::until;
 use comparison::call::Answer;
 use comparison::call::Call;
 use comparison::call::Format;
@@ -17,7 +18,6 @@ use lists::ListAnswer;
 use lists::fold64;
 use vectors::compare::agree;
 use vectors::compare::unreadable;
-use vectors::read::line_end;
 use vectors::read::number_at;
 use vectors::read::pattern_at;
 use vectors::read::small;
@@ -31,33 +31,32 @@ type Bytes = [u8; 64];
 const TOO_LONG: usize = 65;
 
 // What a lent place holds before the call: neither a value nor a byte that a list has.
+const FILLED: u64 = 0xA5A5_A5A5_A5A5_A5A5;
+
+const FILLED_BYTE: u8 = 0xA5;
+
 fn patterns() -> Patterns
     ensures { λ r. ⌜ 64 ≡ length r ⌝ }
 {
-    [0xA5A5_A5A5_A5A5_A5A5; 64]
+    [FILLED; 64]
 }
 
 fn bytes() -> Bytes
     ensures { λ r. ⌜ 64 ≡ length r ⌝ }
 {
-    [0xA5; 64]
+    [FILLED_BYTE; 64]
 }
 
-// The places of a list, and how many there are.
-fn read_places(line: &[u8], x: &mut Patterns, results: &mut Patterns, marks: &mut Bytes) -> usize {
+// The dividends of a list, which are every third word, and how many there are.
+fn read_dividends(line: &[u8], from: usize, x: &mut Patterns) -> usize {
     let mut n: usize = 0;
-    let mut at: usize = 0;
+    let mut at = from;
     while at < line.len() {
         if n >= 64 {
             return TOO_LONG;
         }
-        let dividend = pattern_at(line, at);
-        let result = pattern_at(line, dividend.next);
-        let byte = number_at(line, result.next);
-        x[n] = dividend.pattern.significand;
-        results[n] = result.pattern.significand;
-        marks[n] = small(byte);
-        at = byte.next;
+        x[n] = pattern_at(line, at).pattern.significand;
+        at = next_word(line, next_word(line, next_word(line, at)));
         n += 1;
     }
     n
@@ -77,16 +76,10 @@ fn second_place(a: Answer) -> Answer {
     }
 }
 
-fn dividend_of(list: Call, x: u64) -> Call {
-    let mut c = list;
-    c.x = plain(x);
-    c
-}
-
 // A list's divisor and kind, with the dividend 1.
-fn list_at(head: &[u8]) -> Call {
-    let y = pattern_at(head, 0);
-    let kind = number_at(head, y.next);
+fn list_at(line: &[u8]) -> Call {
+    let y = pattern_at(line, 0);
+    let kind = number_at(line, y.next);
     dividing(
         Operation::Remainder,
         Format::Binary64,
@@ -113,50 +106,57 @@ fn folded(list: Call, x: &[u64], results: &mut [u64], marks: &mut [u8], n: usize
     )
 }
 
-// The lent places beside those of the line.
+// One lent place beside the line's, x result byte, and beside the second implementation's remainder. Answers where the next place stands.
+fn hold_place(line: &[u8], at: usize, list: Call, ours: Answer, counts: &mut Counts) -> usize {
+    let x = pattern_at(line, at);
+    let result = pattern_at(line, x.next);
+    let byte = number_at(line, result.next);
+    let dividend = x.pattern;
+    let mut call = list;
+    call.x = dividend;
+    let given = place(result.pattern.significand, small(byte));
+    agree(call, ours, b", given", given, counts);
+    agree(
+        call,
+        ours,
+        b", second",
+        second_place(independent::answer(call)),
+        counts,
+    );
+    byte.next
+}
+
 fn hold_places(
+    line: &[u8],
+    from: usize,
     list: Call,
     lent: &Patterns,
     lent_bytes: &Bytes,
-    results: &Patterns,
-    marks: &Bytes,
     n: usize,
     counts: &mut Counts,
 )
     requires { ⌜ n ≤ 64 ⌝ }
 {
+    let mut i: usize = 0;
+    let mut at = from;
+    while i < n {
+        at = hold_place(line, at, list, place(lent[i], lent_bytes[i]), counts);
+        i += 1;
+    }
+}
+
+// A refused list leaves what was lent as it was.
+fn hold_kept(list: Call, lent: &Patterns, lent_bytes: &Bytes, n: usize, counts: &mut Counts)
+    requires { ⌜ n ≤ 64 ⌝ }
+{
+    let kept = place(FILLED, FILLED_BYTE);
     let mut i: usize = 0;
     while i < n {
         agree(
             list,
             place(lent[i], lent_bytes[i]),
-            b", given",
-            place(results[i], marks[i]),
-            counts,
-        );
-        i += 1;
-    }
-}
-
-// The lent places beside the second implementation's remainders.
-fn compare_places(
-    list: Call,
-    x: &Patterns,
-    lent: &Patterns,
-    lent_bytes: &Bytes,
-    n: usize,
-    counts: &mut Counts,
-)
-    requires { ⌜ n ≤ 64 ⌝ }
-{
-    let mut i: usize = 0;
-    while i < n {
-        let call = dividend_of(list, x[i]);
-        agree(
-            call,
-            place(lent[i], lent_bytes[i]),
-            b", second",
-            second_place(independent::answer(call)),
+            b", before",
+            kept,
             counts,
         );
         i += 1;
@@ -164,9 +164,9 @@ fn compare_places(
 }
 
 // The number of a list, and its count for the steps, beside the line's and the number that the second implementation has for the dividend 1.
-fn hold_number(list: Call, a: ListAnswer, head: &[u8], counts: &mut Counts) {
-    let number = number_at(head, next_word(head, next_word(head, 0)));
-    let marked = number_at(head, number.next);
+fn hold_number(list: Call, a: ListAnswer, line: &[u8], counts: &mut Counts) {
+    let number = number_at(line, next_word(line, next_word(line, 0)));
+    let marked = number_at(line, number.next);
     let count = (a.marked % 0x1_0000_0000) as u32;
     let ours = divided(a.number, plain(0), 0, count);
     agree(
@@ -186,57 +186,29 @@ fn hold_number(list: Call, a: ListAnswer, head: &[u8], counts: &mut Counts) {
     );
 }
 
-// A refused list leaves what was lent as it was.
-fn judge(
-    head: &[u8],
-    x: &Patterns,
-    results: &Patterns,
-    marks: &Bytes,
-    n: usize,
-    counts: &mut Counts,
-)
+fn judge(line: &[u8], from: usize, x: &Patterns, n: usize, counts: &mut Counts)
     requires { ⌜ n ≤ 64 ⌝ }
 {
-    let list = list_at(head);
+    let list = list_at(line);
     let mut lent = patterns();
     let mut lent_bytes = bytes();
     let a = folded(list, x, &mut lent, &mut lent_bytes, n);
-    hold_number(list, a, head, counts);
+    hold_number(list, a, line, counts);
     if a.number == 0 {
-        hold_places(list, &lent, &lent_bytes, results, marks, n, counts);
-        compare_places(list, x, &lent, &lent_bytes, n, counts);
+        hold_places(line, from, list, &lent, &lent_bytes, n, counts);
     } else {
-        hold_places(list, &lent, &lent_bytes, &patterns(), &bytes(), n, counts);
+        hold_kept(list, &lent, &lent_bytes, n, counts);
     }
 }
 
-fn case(head: &[u8], line: &[u8], counts: &mut Counts) {
+// Both lines of a list.
+pub fn case(line: &[u8], counts: &mut Counts) {
     let mut x = patterns();
-    let mut results = patterns();
-    let mut marks = bytes();
-    let n = read_places(line, &mut x, &mut results, &mut marks);
+    let from = until(line, 0, b'\n', b'\n') + 1;
+    let n = read_dividends(line, from, &mut x);
     if n > 64 {
         unreadable(line, counts);
     } else {
-        judge(head, &x, &results, &marks, n, counts);
+        judge(line, from, &x, n, counts);
     }
-}
-
-// Every pair of lines, and how many lines there are. A list that is missing stands for a difference.
-pub fn lines(text: &[u8], counts: &mut Counts) -> u64 {
-    let mut n: u64 = 0;
-    let mut at: usize = 0;
-    while at < text.len() {
-        let end = line_end(text, at);
-        let next = end + 1;
-        if next >= text.len() {
-            unreadable(&text[at..end], counts);
-            break;
-        }
-        let last = line_end(text, next);
-        case(&text[at..end], &text[next..last], counts);
-        at = last + 1;
-        n = std::num::wrapping_add_u64(n, 2);
-    }
-    n
 }

@@ -7,6 +7,8 @@ mod suites; // suites.rt: published cases
 mod calls; // calls.rt: lists of calls
 mod folds; // folds.rt: lists of values
 
+ghost use Prim.Native.Nat.{_≤_};
+ghost use lib.ListN.{length};
 use comparison::counts;
 use comparison::counts::Counts;
 use vectors::files::read_whole;
@@ -14,28 +16,51 @@ use vectors::files::room;
 use vectors::files::sum_up;
 use vectors::read::line_end;
 
-// What a line of a file has.
+// What a case of a file has.
 enum Layout {
     Published,
     Calls,
+    Folds,
+}
+
+// Where a case ends: a list to fold has two lines.
+fn case_end(text: &[u8], at: usize, layout: Layout) -> usize
+    requires { ⌜ at ≤ length (now text) ⌝ }
+    ensures { λ r. ⌜ (at ≤ r) × (r ≤ length (now (text .entry))) ⌝ }
+{
+    let end = line_end(text, at);
+    if let Layout::Folds = layout {
+        if end < text.len() {
+            return line_end(text, end + 1);
+        }
+    }
+    end
+}
+
+fn lines_of(layout: Layout) -> u64 {
+    match layout {
+        Layout::Folds => 2,
+        _ => 1,
+    }
 }
 
 fn case(line: &[u8], layout: Layout, bad: &[u8], counts: &mut Counts) {
     match layout {
         Layout::Published => suites::case(line, bad, counts),
         Layout::Calls => calls::case(line, counts),
+        Layout::Folds => folds::case(line, counts),
     }
 }
 
-// Every line but comments, and how many there are.
+// Every case but comments, and how many lines they have.
 fn lines(text: &[u8], layout: Layout, bad: &[u8], counts: &mut Counts) -> u64 {
     let mut n: u64 = 0;
     let mut at: usize = 0;
     while at < text.len() {
-        let end = line_end(text, at);
+        let end = case_end(text, at, layout);
         if text[at] != b'#' {
             case(&text[at..end], layout, bad, counts);
-            n = std::num::wrapping_add_u64(n, 1);
+            n = std::num::wrapping_add_u64(n, lines_of(layout));
         }
         at = end + 1;
     }
@@ -47,15 +72,6 @@ fn file(path: &[u8], layout: Layout, bad: &[u8]) {
     let mut text = room();
     let n = read_whole(path, &mut text);
     let lines = lines(&text[..n], layout, bad, &mut counts);
-    sum_up(path, lines, &counts);
-}
-
-fn fold_file() {
-    let path = b"fold-binary64.txt";
-    let mut counts = counts::none();
-    let mut text = room();
-    let n = read_whole(path, &mut text);
-    let lines = folds::lines(&text[..n], &mut counts);
     sum_up(path, lines, &counts);
 }
 
@@ -75,5 +91,5 @@ fn main() {
     let n = read_whole(b"known-bad.txt", &mut bad);
     published_files(&bad[..n]);
     file(b"list-x87.txt", Layout::Calls, b"");
-    fold_file();
+    file(b"fold-binary64.txt", Layout::Folds, b"");
 }

@@ -29,19 +29,17 @@ enum Named {
 }
 
 fn format_at(line: &[u8], at: usize) -> Named {
-    if stands(line, at, b"binary16 ") {
-        return Named::Known(Format::Binary16);
-    }
-    if stands(line, at, b"binary32 ") {
-        return Named::Known(Format::Binary32);
-    }
-    if stands(line, at, b"binary64 ") {
-        return Named::Known(Format::Binary64);
-    }
     if stands(line, at, b"x87 ") {
         return Named::Known(Format::X87);
     }
-    Named::Unknown
+    // behind "binary"
+    let width = number_at(line, std::num::wrapping_add_usize(at, 6)).magnitude;
+    match width {
+        16 => Named::Known(Format::Binary16),
+        32 => Named::Known(Format::Binary32),
+        64 => Named::Known(Format::Binary64),
+        _ => Named::Unknown,
+    }
 }
 
 fn is_operation(op: u8) -> bool {

@@ -1,4 +1,4 @@
--- `published::lines` is safe and ends: each line begins behind the one before it. Assumes nothing.
+-- `published::lines` is safe and ends: each case begins behind the one before it. Assumes nothing.
 use Prim.Native.Nat.{_-_}
 use lib.ListN.{length}
 use borrow.Author.Needs.{needs}
@@ -14,8 +14,8 @@ abbrev μ-loop : tie.MeasureT-loop
 loop-holds : tie.Need-loop-holds Inv-loop μ-loop
 loop-holds c = search needs
 
-line-end-requires : tie.Need-line-end-requires Inv-loop μ-loop
-line-end-requires c κs = search needs
+case-end-requires : tie.Need-case-end-requires Inv-loop μ-loop
+case-end-requires c κs = search needs
 
 shared-slice-read-if1 : tie.Need-shared-slice-read-if1 Inv-loop μ-loop
 shared-slice-read-if1 c = search needs
@@ -31,6 +31,9 @@ part-case-end c = search needs
 
 case-requires : tie.Need-case-requires Inv-loop μ-loop
 case-requires c κs = search needs
+
+lines-of-requires : tie.Need-lines-of-requires Inv-loop μ-loop
+lines-of-requires c κs = search needs
 
 wrapping-add-u64-requires : tie.Need-wrapping-add-u64-requires Inv-loop μ-loop
 wrapping-add-u64-requires c κs = search needs
@@ -54,12 +57,13 @@ lines-spec =
     Inv-loop
     μ-loop
     loop-holds
-    line-end-requires
+    case-end-requires
     shared-slice-read-if1
     sub-case
     part-case-start
     part-case-end
     case-requires
+    lines-of-requires
     wrapping-add-u64-requires
     add-at
     loop-less

@@ -6,13 +6,13 @@ use Rattle.published.proofs.calls.follow.Statement.{statement}
 use Rattle.published.proofs.calls.follow.Tie as tie
 
 abbrev Inv-loop : tie.InvT-loop
-Inv-loop line from list counts₀ course₀ at₀ t8 counts course at = Unit {0}
+Inv-loop line from list counts₀ sum₀ at₀ t8 counts sum at = Unit {0}
 
 abbrev μ-loop : tie.MeasureT-loop
-μ-loop line from list counts₀ course₀ at₀ t8 counts course at = length line - at
+μ-loop line from list counts₀ sum₀ at₀ t8 counts sum at = length line - at
 
-begun-requires : tie.Need-begun-requires Inv-loop μ-loop
-begun-requires c κs = search needs
+divided-requires : tie.Need-divided-requires Inv-loop μ-loop
+divided-requires c κs = search needs
 
 loop-holds : tie.Need-loop-holds Inv-loop μ-loop
 loop-holds c = search needs
@@ -41,13 +41,16 @@ loop-again c = search needs
 returns : tie.Need-returns Inv-loop μ-loop
 returns c = search needs
 
+returns-2 : tie.Need-returns-2 Inv-loop μ-loop
+returns-2 c = search needs
+
 pub follow-spec : {M : Type 1} → statement M
 follow-spec =
     tie.close
     (tie.spec
     Inv-loop
     μ-loop
-    begun-requires
+    divided-requires
     loop-holds
     until-requires
     turn-requires
@@ -56,4 +59,5 @@ follow-spec =
     add-at
     loop-less
     loop-again
-    returns)
+    returns
+    returns-2)

@@ -5,10 +5,10 @@ use Rattle.published.proofs.folds.hold_places.Statement.{statement}
 use Rattle.published.proofs.folds.hold_places.Tie as tie
 
 abbrev Inv-loop : tie.InvT-loop
-Inv-loop list lent lent-bytes results marks n counts₀ i₀ t9 counts i = Unit {0}
+Inv-loop line from list lent lent-bytes n counts₀ i₀ at₀ counts i at = Unit {0}
 
 abbrev μ-loop : tie.MeasureT-loop
-μ-loop list lent lent-bytes results marks n counts₀ i₀ t9 counts i = n - i
+μ-loop line from list lent lent-bytes n counts₀ i₀ at₀ counts i at = n - i
 
 loop-holds : tie.Need-loop-holds Inv-loop μ-loop
 loop-holds c = search needs
@@ -25,23 +25,8 @@ element-copy-out-place-2 c = search needs
 place-requires : tie.Need-place-requires Inv-loop μ-loop
 place-requires c κs = search needs
 
-slice-aggregate-agree : tie.Need-slice-aggregate-agree Inv-loop μ-loop
-slice-aggregate-agree c = search needs
-
-mul-place-2 : tie.Need-mul-place-2 Inv-loop μ-loop
-mul-place-2 c = search needs
-
-element-copy-out-place-3 : tie.Need-element-copy-out-place-3 Inv-loop μ-loop
-element-copy-out-place-3 c = search needs
-
-element-copy-out-place-4 : tie.Need-element-copy-out-place-4 Inv-loop μ-loop
-element-copy-out-place-4 c = search needs
-
-place-requires-2 : tie.Need-place-requires-2 Inv-loop μ-loop
-place-requires-2 c κs = search needs
-
-agree-requires : tie.Need-agree-requires Inv-loop μ-loop
-agree-requires c κs = search needs
+hold-place-requires : tie.Need-hold-place-requires Inv-loop μ-loop
+hold-place-requires c κs = search needs
 
 add-i : tie.Need-add-i Inv-loop μ-loop
 add-i c = search needs
@@ -66,12 +51,7 @@ hold-places-spec =
     element-copy-out-place
     element-copy-out-place-2
     place-requires
-    slice-aggregate-agree
-    mul-place-2
-    element-copy-out-place-3
-    element-copy-out-place-4
-    place-requires-2
-    agree-requires
+    hold-place-requires
     add-i
     loop-less
     loop-again
