@@ -1,10 +1,10 @@
 // The published cases that are wrong where they were published: a zero is printed with the sign that IEEE 754 does not give it. A line of
 // their file has the seven words of the case, and then a reason.
-use crate::words::stands;
 use comparison::call::Format;
 use comparison::library::plain;
 use definitions::Extended;
 use vectors::read::line_end;
+use vectors::words::stands;
 
 // Whether the bytes of a case, and no longer word, stand at a place of the bad ones.
 fn stands_alone(bad: &[u8], at: usize, line: &[u8]) -> bool {

@@ -1,16 +1,15 @@
 // Runs the library and the second implementation side by side on the cases that other projects print in their test suites, on lists of
 // calls, and on lists of binary64 values. Writes counts, and every difference with both answers, so that what it writes is then not what
 // is stored.
-mod words; // words.rt: the words of a line
 mod bad; // bad.rt: published cases that are wrong
 mod suites; // suites.rt: published cases
-mod calls; // calls.rt: lists of calls
-mod folds; // folds.rt: lists of values
 
 ghost use Prim.Native.Nat.{_≤_};
 ghost use lib.ListN.{length};
 use comparison::counts;
 use comparison::counts::Counts;
+use listed::calls;
+use listed::folds;
 use vectors::files::read_whole;
 use vectors::files::room;
 use vectors::files::sum_up;

@@ -4,8 +4,6 @@
 // a splitting into the significand expected and the exponent q.
 use crate::bad::is_bad;
 use crate::bad::negated;
-use crate::words::next_word;
-use crate::words::stands;
 use comparison::call::Answer;
 use comparison::call::Call;
 use comparison::call::Format;
@@ -22,6 +20,8 @@ use vectors::compare::unreadable;
 use vectors::read::number_at;
 use vectors::read::pattern_at;
 use vectors::read::signed;
+use vectors::words::next_word;
+use vectors::words::stands;
 
 enum Named {
     Known(Format),

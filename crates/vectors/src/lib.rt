@@ -4,3 +4,4 @@ pub mod files; // files.rt: a file read whole, and the line that sums it up
 pub mod layouts; // layouts.rt: lines and files of computed vectors
 pub mod print; // print.rt: calls, answers and numbers as text
 pub mod read; // read.rt: the fields of a line
+pub mod words; // words.rt: the words of a line

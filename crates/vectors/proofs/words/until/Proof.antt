@@ -1,9 +1,9 @@
--- `published::words::until` meets its contract: the place stays within the text. Assumes nothing.
+-- `vectors::words::until` meets its contract: the place stays within the text. Assumes nothing.
 use Prim.Native.Nat.{_-_, _≤_}
 use lib.ListN.{length}
 use borrow.Author.Needs.{needs}
-use Rattle.published.proofs.words.until.Statement.{statement}
-use Rattle.published.proofs.words.until.Tie as tie
+use Rattle.vectors.proofs.words.until.Statement.{statement}
+use Rattle.vectors.proofs.words.until.Tie as tie
 
 abbrev Inv-loop : tie.InvT-loop
 Inv-loop text from one other at₀ at = (from ≤ at) × (at ≤ length text)

@@ -1,9 +1,9 @@
--- `published::calls::follow` is safe and ends: each call begins behind the one before it. Assumes nothing.
+-- `listed::calls::follow` is safe and ends: each call begins behind the one before it. Assumes nothing.
 use Prim.Native.Nat.{_-_}
 use lib.ListN.{length}
 use borrow.Author.Needs.{needs}
-use Rattle.published.proofs.calls.follow.Statement.{statement}
-use Rattle.published.proofs.calls.follow.Tie as tie
+use Rattle.listed.proofs.calls.follow.Statement.{statement}
+use Rattle.listed.proofs.calls.follow.Tie as tie
 
 abbrev Inv-loop : tie.InvT-loop
 Inv-loop line from list counts₀ sum₀ at₀ t8 counts sum at = Unit {0}

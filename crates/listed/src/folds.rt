@@ -2,8 +2,6 @@
 ghost use mathlib.Core.Path.{_≡_};
 ghost use Prim.Native.Nat.{_≤_};
 ghost use lib.ListN.{length};
-use crate::words::next_word;
-use crate::words::until;
 use comparison::call::Answer;
 use comparison::call::Call;
 use comparison::call::Format;
@@ -22,6 +20,8 @@ use vectors::read::number_at;
 use vectors::read::pattern_at;
 use vectors::read::small;
 use vectors::read::word32;
+use vectors::words::next_word;
+use vectors::words::until;
 
 type Patterns = [u64; 64];
 
@@ -30,7 +30,7 @@ type Bytes = [u8; 64];
 // A longer list than there is room for.
 const TOO_LONG: usize = 65;
 
-// What a lent place holds before the call: neither a value nor a byte that a list has.
+// What a lent place holds before the call. No folded place has this byte.
 const FILLED: u64 = 0xA5A5_A5A5_A5A5_A5A5;
 
 const FILLED_BYTE: u8 = 0xA5;
@@ -91,7 +91,7 @@ fn list_at(line: &[u8]) -> Call {
     )
 }
 
-// The places up to the n-th, folded.
+// The first n places, folded.
 fn folded(list: Call, x: &[u64], results: &mut [u64], marks: &mut [u8], n: usize) -> ListAnswer
     requires { ⌜ (n ≤ length (now x)) × (n ≤ length (now results)) × (n ≤ length (now marks)) ⌝ }
 {

@@ -1,9 +1,9 @@
--- `published::words::stands` is safe and ends: each turn passes one of the bytes. Assumes nothing.
+-- `vectors::words::stands` is safe and ends: each turn passes one of the bytes. Assumes nothing.
 use Prim.Native.Nat.{_-_}
 use lib.ListN.{length}
 use borrow.Author.Needs.{needs}
-use Rattle.published.proofs.words.stands.Statement.{statement}
-use Rattle.published.proofs.words.stands.Tie as tie
+use Rattle.vectors.proofs.words.stands.Statement.{statement}
+use Rattle.vectors.proofs.words.stands.Tie as tie
 
 abbrev Inv-loop : tie.InvT-loop
 Inv-loop text from bytes i₀ at₀ i at = Unit {0}

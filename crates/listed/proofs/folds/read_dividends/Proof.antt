@@ -1,8 +1,8 @@
--- `published::folds::read_dividends` is safe and ends: there is room for 64 places. Assumes nothing.
+-- `listed::folds::read_dividends` is safe and ends: there is room for 64 places. Assumes nothing.
 use Prim.Native.Nat.{_-_, _≤_}
 use borrow.Author.Needs.{needs}
-use Rattle.published.proofs.folds.read_dividends.Statement.{statement}
-use Rattle.published.proofs.folds.read_dividends.Tie as tie
+use Rattle.listed.proofs.folds.read_dividends.Statement.{statement}
+use Rattle.listed.proofs.folds.read_dividends.Tie as tie
 
 abbrev Inv-loop : tie.InvT-loop
 Inv-loop line from x₀ n₀ at₀ x n at = n ≤ 64

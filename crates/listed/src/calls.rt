@@ -2,9 +2,6 @@
 //
 // Commas part the calls: s33 is a step of size 33, r63:5 a run of size 63 with budget 5. A b behind a call stands for a block of the wrong
 // length, which only a caller from C can lend: such a call is refused.
-use crate::words::next_word;
-use crate::words::stands;
-use crate::words::until;
 use comparison::call::Answer;
 use comparison::call::Call;
 use comparison::call::Format;
@@ -20,6 +17,9 @@ use vectors::read::number_at;
 use vectors::read::pattern_at;
 use vectors::read::small;
 use vectors::read::word32;
+use vectors::words::next_word;
+use vectors::words::stands;
+use vectors::words::until;
 
 // The number of a list none of whose calls was accepted.
 const NONE: u8 = 255;
