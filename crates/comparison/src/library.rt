@@ -24,6 +24,7 @@ use remainder::patterns::remainder16;
 use remainder::patterns::remainder32;
 use remainder::patterns::remainder64;
 use remainder::patterns::remainder80;
+use remainder::refusal::refusal_number;
 use scaling::scale::scale16;
 use scaling::scale::scale32;
 use scaling::scale::scale64;
@@ -32,18 +33,6 @@ use scaling::split::split16;
 use scaling::split::split32;
 use scaling::split::split64;
 use scaling::split::split80;
-
-fn number_of(why: Refusal) -> u8 {
-    match why {
-        Refusal::Misfit => 9,
-        Refusal::Missized => 6,
-        Refusal::Unsupported => 2,
-        Refusal::Nan => 3,
-        Refusal::Infinite => 4,
-        Refusal::ZeroDivisor => 5,
-        Refusal::ZeroSplit => 8,
-    }
-}
 
 fn house_nan(format: Format) -> Extended {
     match format {
@@ -65,7 +54,7 @@ pub fn plain(pattern: u64) -> Extended {
 }
 
 fn refused(format: Format, why: Refusal) -> Answer {
-    divided(number_of(why), house_nan(format), 0, 0)
+    divided(refusal_number(why), house_nan(format), 0, 0)
 }
 
 pub fn kind_of(nearest: bool) -> Kind {
