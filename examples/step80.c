@@ -29,10 +29,8 @@ static int read_x87(const char *digits, struct x87 *x) {
 }
 
 static void print_octant(uint32_t sum, uint32_t last) {
-    printf("octant %u: C0 %d C3 %d C1 %d", (unsigned)sum, zk_c0(sum), zk_c3(sum), zk_c1(sum));
-    if (sum != last)
-        printf(" (the last step alone shows %u)", (unsigned)last);
-    printf("\n");
+    printf("octant %u; the last step's flags show %u: C0 %d C3 %d C1 %d\n", (unsigned)sum, (unsigned)last, zk_c0(last), zk_c3(last),
+           zk_c1(last));
 }
 
 static int step_to_end(struct x87 x, struct x87 y, uint32_t size, uint32_t kind) {

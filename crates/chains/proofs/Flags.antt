@@ -6,8 +6,11 @@ use native.Mathlib.Nat.{div-div-eq-div-mul}
 use native.Mathlib.Omega.{arith}
 use borrow.Author.Tests.{eqb-true, eqb-false}
 use lib.Dec.{eqb}
-use Rattle.definitions.specs.Division.{Reply}
-use Rattle.definitions.specs.Steps.{flagsOf}
+use Rattle.definitions.specs.Format.{classOf, x87}
+use Rattle.definitions.specs.declared.Kind.{Kind}
+use Rattle.definitions.specs.Division.{Reply, dividendOf, divisorOf}
+use Rattle.definitions.specs.Steps.{step, flagsOf}
+use Rattle.definitions.specs.Reports.{Lent, stepReport}
 
 bit : (b : ℕ) → b < 2 → cond (eqb b 1) 1 0 ≡ b
 bit b h = go (eqb b 1) refl
@@ -23,6 +26,15 @@ three w =
     let b : w / 4 / 2 ≡ w / 8 = div-div-eq-div-mul w 4 2 in
     omega arith
 
--- C0, C3 and C1 are bits 2, 1 and 0
-pub flags-are-bits : (r : Reply) → cond (flagsOf r .c0) 1 0 * 4 + cond (flagsOf r .c3) 1 0 * 2 + cond (flagsOf r .c1) 1 0 ≡ r .whole % 8
+-- the number whose bits 2, 1 and 0 are C0, C3 and C1
+abbrev pub octant : Reply → ℕ
+octant r = cond (flagsOf r .c0) 1 0 * 4 + cond (flagsOf r .c3) 1 0 * 2 + cond (flagsOf r .c1) 1 0
+
+flags-are-bits : (r : Reply) → octant r ≡ r .whole % 8
 flags-are-bits r = rw (bit (r .whole / 4 % 2) (omega arith), bit (r .whole / 2 % 2) (omega arith), bit (r .whole % 2) (omega arith)) (three (r .whole))
+
+-- on a finished step it is the quotient that the step reports
+pub finished-flags : (l : Lent) (κ : Kind) (n x y : ℕ) → stepReport l κ n x y .number ≡ 0
+    → octant (step κ n (divisorOf (classOf x87 y)) (dividendOf (classOf x87 x))) ≡ stepReport l κ n x y .quotient
+unfolding stepReport
+finished-flags l κ n x y e = rw e (flags-are-bits (step κ n (divisorOf (classOf x87 y)) (dividendOf (classOf x87 x))))

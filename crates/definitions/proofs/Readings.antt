@@ -2,7 +2,7 @@
 use mathlib.Core.Path.{_≡_, refl}
 use lib.Ieee.{size}
 use Rattle.definitions.specs.Class.{gap}
-use Rattle.definitions.specs.Format.{classOf, patternOf, magnitude}
+use Rattle.definitions.specs.Format.{classOf, patternOf, magnitude, houseNan, binary16, binary32, binary64, x87}
 use Rattle.definitions.specs.Numbers.{numberOf}
 use Rattle.definitions.specs.Division.{finish}
 use Rattle.definitions.specs.Steps.{step, run}
@@ -17,3 +17,7 @@ readings-hold = refl
 pub long-readings-hold : allTold longReadings ≡ allPrinted longReadings
 unfolding told longReadings size gap classOf patternOf magnitude numberOf finish step run
 long-readings-hold = refl
+
+-- "House NaN: 7E00, 7FC00000, 7FF8000000000000, and x87 7FFF with C000000000000000"
+pub house-nans : (houseNan binary16 ≡ 0x7E00) × (houseNan binary32 ≡ 0x7FC00000) × (houseNan binary64 ≡ 0x7FF8000000000000) × (houseNan x87 ≡ 0x7FFFC000000000000000)
+house-nans = (refl, refl, refl, refl)

@@ -1,23 +1,24 @@
 -- The cut by a number of binary places: exact multiples, a common place, and what it does to the digits. Assumes nothing.
 use mathlib.Core.Path.{_≡_, refl, sym, ap, _∙_}
-use mathlib.Core.Bool.{Bool, true, false, not, cond, _&&_}
+use mathlib.Core.Bool.{Bool, true, false, not, cond, _&&_, _||_}
 use Prim.Native.Nat.{ℕ, _+_, _-_, _*_, _/_, _%_, _^_, _≤_, _<_}
-use native.Mathlib.Nat.{zero-mul, mul-div-mul-right, mul-mod-left, mul-div-cancel, mod-lt, mod-le, mod-eq-of-lt, div-eq-of-lt, div-le-self, div-lt-self, pos-of-ne-zero, div-mul-cancel, one-dvd, dvd-mul-left, lt-of-lt-of-le}
+use native.Mathlib.Nat.{zero-mul, mul-div-mul-right, mul-mod-left, mul-div-cancel, mod-lt, mod-le, mod-add-div, mod-eq-of-lt, div-eq-of-lt, div-le-self, div-lt-self, pos-of-ne-zero, div-mul-cancel, one-dvd, dvd-mul-left, lt-of-lt-of-le}
 use native.Mathlib.Omega.{arith}
-use borrow.Author.Tests.{le-ltb, eqb-true, eqb-false}
-use lib.Dec.{T, leb, leb→le, nleb→lt, eqb}
+use borrow.Author.Tests.{le-ltb, lt-ltb, eq-eqb, ne-eqb, ltb-true, ltb-false, eqb-true, eqb-false}
+use lib.Dec.{T, leb, leb→le, nleb→lt, ltb, eqb}
 use lib.Pow.{pow-add, pow-pos, pow-mono, pow-lt, shl-lt, shr-lt}
 use lib.Ieee.{size}
 use lib.Ieee.Fits.{kept-lt}
 use Rattle.digits.specs.Digits.{Digits}
-use Rattle.digits.proofs.Tests.{not-zero}
+use Rattle.digits.proofs.Tests.{clash, not-zero}
 use Rattle.digits.proofs.Digits.{digits-intro, digits-dvd, digits-lt}
 use Rattle.digits.proofs.Common.{mod-scale, eqb-scale, shift-back}
 use Rattle.definitions.specs.Division.{roundsUp}
 use Rattle.definitions.specs.declared.Kind.the-variants.{Nearest}
-use Rattle.definitions.specs.declared.Rounding.the-variants.{Exact, Down}
-use Rattle.definitions.specs.Cut.{Rounded, cut}
-use Rattle.laws.proofs.Division.{up-scale}
+use Rattle.definitions.specs.declared.Rounding.{Rounding}
+use Rattle.definitions.specs.declared.Rounding.the-variants.{Exact, Up, Down}
+use Rattle.definitions.specs.Cut.{Rounded, direction, cut}
+use Rattle.laws.proofs.Division.{up-scale, rounds-up-once}
 
 -- where nothing is left over
 pub cut-exact : (n k : ℕ) → n % 2 ^ k ≡ 0 → cut n k ≡ record { quotient = n / 2 ^ k; says = Exact }
@@ -90,3 +91,74 @@ cut-digits p n k h d = go (leb k a) (leb→le k a) (nleb→lt k a)
         let q = cut-near n k in
         let w : 2 ^ (p - 1) < 2 ^ (p + 0) = pow-lt (omega arith) in
         digits-intro p 0 (cut n k .quotient) (one-dvd (cut n k .quotient)) (omega arith)
+
+-- ---- what rounding is, said without its definition
+
+-- how m stands to n: the same, above it or below
+abbrev pub against : ℕ → ℕ → Rounding
+against m n = cond (eqb m n) Exact (cond (ltb n m) Up Down)
+
+-- q times d is at most half of d away from n, q is even at a half, and says tells on which side it lies
+pub record Closest (n d q : ℕ) (says : Rounding) : Type 0 where
+  pub above : 2 * (q * d) ≤ 2 * n + d
+  pub below : 2 * n ≤ 2 * (q * d) + d
+  pub even-above : 2 * (q * d) ≡ 2 * n + d → q % 2 ≡ 0
+  pub even-below : 2 * n ≡ 2 * (q * d) + d → q % 2 ≡ 0
+  pub told : says ≡ against (q * d) n
+
+same-told : (m n : ℕ) → m ≡ n → Exact ≡ against m n
+same-told m n e = rw (eq-eqb m n e)
+
+above-told : (m n : ℕ) → n < m → Up ≡ against m n
+above-told m n h = rw (ne-eqb m n (λ e. omega arith), lt-ltb n m h)
+
+below-told : (m n : ℕ) → m < n → Down ≡ against m n
+below-told m n h = rw (ne-eqb m n (λ e. omega arith), le-ltb n m (omega arith))
+
+pub cut-closest : (n k : ℕ) → Closest n (2 ^ k) (cut n k .quotient) (cut n k .says)
+unfolding cut
+cut-closest n k = rw (rounds-up-once q r d) (go (ltb d (r * 2 + q % 2)) (eqb r 0) refl refl)
+  where
+    d : ℕ
+    d = 2 ^ k
+
+    q : ℕ
+    q = n / d
+
+    r : ℕ
+    r = n % d
+
+    whole : r + d * q ≡ n
+    whole = mod-add-div n d
+
+    less : r < d
+    less = mod-lt n (pow-pos k)
+
+    go : (u z : Bool) → ltb d (r * 2 + q % 2) ≡ u → eqb r 0 ≡ z → Closest n d (cond u (q + 1) q) (direction z u)
+    go true true e f = clash (omega (arith, less, ltb-true d (r * 2 + q % 2) e, eqb-true r 0 f))
+    go true false e f =
+        let w = whole in
+        let l = less in
+        let h = ltb-true d (r * 2 + q % 2) e in
+        record {
+          above = omega arith;
+          below = omega arith;
+          even-above = λ i. omega arith;
+          even-below = λ i. omega arith;
+          told = above-told ((q + 1) * d) n (omega arith);
+        }
+    go false z e f = closest z f
+      where
+        half : r * 2 + q % 2 ≤ d
+        half = ltb-false d (r * 2 + q % 2) e
+
+        side : (z : Bool) → eqb r 0 ≡ z → direction z false ≡ against (q * d) n
+        side true i = same-told (q * d) n (omega (arith, whole, eqb-true r 0 i))
+        side false i = let o = eqb-false r 0 i in below-told (q * d) n (omega (arith, whole))
+
+        closest : (z : Bool) → eqb r 0 ≡ z → Closest n d q (direction z false)
+        closest z i =
+            let w = whole in
+            let l = less in
+            let h = half in
+            record { above = omega arith; below = omega arith; even-above = λ j. omega arith; even-below = λ j. omega arith; told = side z i }
