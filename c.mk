@@ -4,6 +4,7 @@
 #   outside         the quick tests: header, examples, readings, vectors, lent memory, runs, lists, binary16, the processor, the C library (about a minute)
 #   outside-long    runs, the processor and the C library with ten million operand pairs a format, then a second C library (musl) and MPFR
 #   outside-half    all 2^32 pairs of binary16, both kinds, against whole-number division and the second implementation (some 40 minutes)
+#   outside-faults  the quick tests on a library with one fault at a time: each fault has to be noticed
 #   bench           times and ratios, then instructions by callgrind
 #   bench-lines     the line program against the same job by scanf, fmod and printf
 #   examples        builds them and holds what they write to the stored text
@@ -26,7 +27,7 @@ c_nobuiltin = $(foreach n,fmod remainder remquo ldexp frexp,-fno-builtin-$(n) -f
 
 debian = { apt-get update && apt-get install -y $(1); }
 
-.PHONY: always tools peers meters outside outside-long outside-half bench bench-lines examples header install install-check
+.PHONY: always tools peers meters outside outside-long outside-half outside-faults bench bench-lines examples header install install-check
 
 # rt proves again what has changed. Another LIB is taken as it is.
 target/staticlib/libcapi.a: $(shell find crates -name '*.rt' -o -name '*.antt') crates.txt
@@ -115,6 +116,17 @@ outside-long: $(addprefix $(c_out)/,chains fprem libm ldexp libm-musl ldexp-musl
 outside-half: $(c_out)/half $(c_out)/second
 	$(c_out)/half 1
 	seq 0 4096 65535 | xargs -P $$(nproc) -I FIRST sh -c '$(c_out)/second FIRST $$((FIRST + 4095))'
+
+# the same programs with one fault of the library at a time: each has to be noticed
+c_wrapped = $(foreach f,rem16 rem32 rem64 rem80 step80 run80 scale16 scale32 scale64 scale80 split16 split32 split64 split80 fold64,-Wl,--wrap=zk_$(f))
+c_faulty = $(c_out)/faulty
+
+$(c_faulty)/%: tests/%.c tests/faults.c tests/calls.h tests/operands.h include/zukemoriha.h $(c_archive) | $(c_out)
+	mkdir -p $(c_faulty)
+	$(CC) $(c_flags) $(c_nobuiltin) -Itests $< tests/faults.c $(c_wrapped) $(LIB) -lm -o $@
+
+outside-faults: $(addprefix $(c_faulty)/,readings untouched vectors chains fold ldexp libm half fprem)
+	sh tests/faults.sh $(c_faulty)
 
 bench: $(c_out)/bench | meters
 	$(c_out)/bench
