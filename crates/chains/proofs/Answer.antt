@@ -49,6 +49,12 @@ answer-is κ (step l n) x y v w ex ey p =
 answer-is κ (run l n b) x y v w ex ey p =
     rw (ex, ey, number-finite l n v w (not (Steps.run κ n b (by (w .count)) v .done)) false p, cond-not)
 
+-- "A refused call adds 0 to both": no steps and no quotient bits
+pub refused-adds : (κ : Kind) (y : ℕ) (c : Call) (x : ℕ) → accepted (answer κ y c x .number) ≡ false → (answer κ y c x .steps ≡ 0) × (answer κ y c x .quotient ≡ 0)
+unfolding answer stepReport runReport
+refused-adds κ y (step l n) x e = (rw e, rw e)
+refused-adds κ y (run l n b) x e = (rw e, rw e)
+
 -- ---- values stay representable, so that a pattern is read as the value that was written
 
 pub step-held : (f : Format) (κ : Kind) (n m : ℕ) (x : Value) → 0 < m → Held f m → Held f (x .count) → Held f (Steps.step κ n (by m) x .value .count)

@@ -7,4 +7,5 @@ pub mod Lists
 pub mod Answer
 pub mod Demand3
 pub mod Spent
+pub mod Continued
 pub mod Flags

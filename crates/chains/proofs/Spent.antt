@@ -20,7 +20,7 @@ refusal l n a b = numberOf (calling l n a b false false)
 
 -- A number that depends on the reply's k: it is a refusal whatever the reply, or nothing is refused, so that the size is right (i) and the
 -- divisor not zero (z), and it is k.
-data Outcome (i z : Bool) (number : ℕ → ℕ) : Type 0 where
+pub data Outcome (i z : Bool) (number : ℕ → ℕ) : Type 0 where
   refused : (r : ℕ) → accepted r ≡ false → eqb r 0 ≡ false → eqb r 7 ≡ false → ((k : ℕ) → number k ≡ r) → Outcome i z number
   passed : i ≡ false → z ≡ false → ((k : ℕ) → number k ≡ k) → Outcome i z number
 
@@ -34,11 +34,11 @@ outcome false false false false false true = refused 5 refl refl refl (λ k. ref
 outcome false false false false false false = passed refl refl (λ k. refl)
 
 -- of a call: k is the number of its reply
-abbrev numbered : Lent → ℕ → Class → Class → ℕ → ℕ
+abbrev pub numbered : Lent → ℕ → Class → Class → ℕ → ℕ
 numbered l n a b k =
     cond (not (fitting l)) 9 (cond (not (sized n)) 6 (cond (isUnsupported a || isUnsupported b) 2 (cond (isNan a || isNan b) 3 (cond (isInfinite a) 4 (cond (isZero b) 5 k)))))
 
-result : (l : Lent) (n : ℕ) (a b : Class) → Outcome (not (sized n)) (isZero b) (numbered l n a b)
+pub result : (l : Lent) (n : ℕ) (a b : Class) → Outcome (not (sized n)) (isZero b) (numbered l n a b)
 result l n a b = outcome (not (fitting l)) (not (sized n)) (isUnsupported a || isUnsupported b) (isNan a || isNan b) (isInfinite a) (isZero b)
 
 nonzero-pos : (n : ℕ) → eqb n 0 ≡ false → 0 < n

@@ -1,6 +1,6 @@
 -- The cut by a number of binary places: exact multiples, a common place, and what it does to the digits. Assumes nothing.
 use mathlib.Core.Path.{_≡_, refl, sym, ap, _∙_}
-use mathlib.Core.Bool.{Bool, true, false, not, cond, _&&_, _||_}
+use mathlib.Core.Bool.{Bool, true, false, not, cond, _&&_}
 use Prim.Native.Nat.{ℕ, _+_, _-_, _*_, _/_, _%_, _^_, _≤_, _<_}
 use native.Mathlib.Nat.{zero-mul, mul-div-mul-right, mul-mod-left, mul-div-cancel, mod-lt, mod-le, mod-add-div, mod-eq-of-lt, div-eq-of-lt, div-le-self, div-lt-self, pos-of-ne-zero, div-mul-cancel, one-dvd, dvd-mul-left, lt-of-lt-of-le}
 use native.Mathlib.Omega.{arith}
