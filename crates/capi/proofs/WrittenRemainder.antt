@@ -11,7 +11,7 @@ use Rattle.definitions.specs.declared.RemainderAnswer.{RemainderAnswer}
 use Rattle.definitions.specs.declared.RemainderAnswer.the-variants as rem
 use Rattle.definitions.specs.declared.RemainderAnswer80.{RemainderAnswer80}
 use Rattle.definitions.specs.declared.RemainderAnswer80.the-variants as rem80
-use Rattle.capi.specs.Interface.{after, significandOf, wordOf}
+use Rattle.capi.specs.Interface.{after, significandIn, wordIn}
 use Rattle.capi.proofs.Small.{remainder-small}
 use Rattle.capi.proofs.Written.{kept, significand-of, word-of}
 
@@ -32,14 +32,14 @@ value-fits f r κ x y a v q told e = rw (finished f a (remainder f κ x y) told 
 
 module _ (a : RemainderAnswer80) (R : Remainder) (told : remainderTold80 a ≡ R) where
   pub finished80 : (v : Extended) (q : ℕ) → a ≡ rem80.Finished v q → v .significand < 2 ^ 64
-      → (0 ≡ R .number) × ((v .significand ≡ significandOf (R .value)) × ((v .word ≡ wordOf (R .value)) × (q ≡ R .quotient)))
+      → (0 ≡ R .number) × ((v .significand ≡ significandIn (R .value)) × ((v .word ≡ wordIn (R .value)) × (q ≡ R .quotient)))
   unfolding remainderTold80
   finished80 v q e h =
-      subst (λ (t : Remainder). (0 ≡ t .number) × ((v .significand ≡ significandOf (t .value)) × ((v .word ≡ wordOf (t .value)) × (q ≡ t .quotient))))
+      subst (λ (t : Remainder). (0 ≡ t .number) × ((v .significand ≡ significandIn (t .value)) × ((v .word ≡ wordIn (t .value)) × (q ≡ t .quotient))))
       (ap remainderTold80 (sym e) ∙ told) (refl, (significand-of v h, (word-of v h, refl)))
 
   pub refused80 : (w : Refusal) (n value word quotient : ℕ) → a ≡ rem80.Refused w → n ≡ refusalNumber w
-      → (n ≡ R .number) × ((value ≡ after n (significandOf (R .value)) value) × ((word ≡ after n (wordOf (R .value)) word) × (quotient ≡ after n (R .quotient) quotient)))
+      → (n ≡ R .number) × ((value ≡ after n (significandIn (R .value)) value) × ((word ≡ after n (wordIn (R .value)) word) × (quotient ≡ after n (R .quotient) quotient)))
   unfolding remainderTold80
   refused80 w n value word quotient e i =
       (i ∙ ap (λ (t : Remainder). t .number) (ap remainderTold80 (sym e) ∙ told), (kept w n _ value i, (kept w n _ word i, kept w n _ quotient i)))

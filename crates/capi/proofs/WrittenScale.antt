@@ -12,7 +12,7 @@ use Rattle.definitions.specs.declared.ScaleAnswer.{ScaleAnswer}
 use Rattle.definitions.specs.declared.ScaleAnswer.the-variants as scale
 use Rattle.definitions.specs.declared.ScaleAnswer80.{ScaleAnswer80}
 use Rattle.definitions.specs.declared.ScaleAnswer80.the-variants as scale80
-use Rattle.capi.specs.Interface.{after, saysNumber, significandOf, wordOf}
+use Rattle.capi.specs.Interface.{after, saysNumber, significandIn, wordIn}
 use Rattle.capi.proofs.Small.{scale-small}
 use Rattle.capi.proofs.Written.{kept, significand-of, word-of}
 
@@ -33,14 +33,14 @@ value-fits f r x k a v s told e = rw (scaled f a (scaleReport f x k) told v (say
 
 module _ (a : ScaleAnswer80) (R : ScaleReport) (told : scaleTold80 a ≡ R) where
   pub scaled80 : (v : Extended) (n : ℕ) (s : Rounding) → a ≡ scale80.Scaled v s → n ≡ saysNumber s → v .significand < 2 ^ 64
-      → (0 ≡ R .number) × ((v .significand ≡ significandOf (R .value)) × ((v .word ≡ wordOf (R .value)) × (n ≡ saysNumber (R .says))))
+      → (0 ≡ R .number) × ((v .significand ≡ significandIn (R .value)) × ((v .word ≡ wordIn (R .value)) × (n ≡ saysNumber (R .says))))
   unfolding scaleTold80
   scaled80 v n s e i h =
-      subst (λ (t : ScaleReport). (0 ≡ t .number) × ((v .significand ≡ significandOf (t .value)) × ((v .word ≡ wordOf (t .value)) × (n ≡ saysNumber (t .says)))))
+      subst (λ (t : ScaleReport). (0 ≡ t .number) × ((v .significand ≡ significandIn (t .value)) × ((v .word ≡ wordIn (t .value)) × (n ≡ saysNumber (t .says)))))
       (ap scaleTold80 (sym e) ∙ told) (refl, (significand-of v h, (word-of v h, i)))
 
   pub refused80 : (w : Refusal) (n value word says : ℕ) → a ≡ scale80.Refused w → n ≡ refusalNumber w
-      → (n ≡ R .number) × ((value ≡ after n (significandOf (R .value)) value) × ((word ≡ after n (wordOf (R .value)) word) × (says ≡ after n (saysNumber (R .says)) says)))
+      → (n ≡ R .number) × ((value ≡ after n (significandIn (R .value)) value) × ((word ≡ after n (wordIn (R .value)) word) × (says ≡ after n (saysNumber (R .says)) says)))
   unfolding scaleTold80
   refused80 w n value word says e i =
       (i ∙ ap (λ (t : ScaleReport). t .number) (ap scaleTold80 (sym e) ∙ told), (kept w n _ value i, (kept w n _ word i, kept w n _ says i)))

@@ -11,7 +11,7 @@ use Rattle.definitions.specs.declared.SplitAnswer.{SplitAnswer}
 use Rattle.definitions.specs.declared.SplitAnswer.the-variants as split
 use Rattle.definitions.specs.declared.SplitAnswer80.{SplitAnswer80}
 use Rattle.definitions.specs.declared.SplitAnswer80.the-variants as split80
-use Rattle.capi.specs.Interface.{after, significandOf, wordOf}
+use Rattle.capi.specs.Interface.{after, significandIn, wordIn}
 use Rattle.capi.proofs.Small.{split-small}
 use Rattle.capi.proofs.Written.{kept, significand-of, word-of}
 
@@ -32,15 +32,15 @@ significand-fits f r x a s e told q = rw (parted f a (splitReport f x) told s e 
 
 module _ (a : SplitAnswer80) (R : SplitReport) (told : splitTold80 a ≡ R) where
   pub parted80 : (s : Extended) (e i : ℤ) → a ≡ split80.Parts s e → i ≡ e → s .significand < 2 ^ 64
-      → (0 ≡ R .number) × ((s .significand ≡ significandOf (R .significand)) × ((s .word ≡ wordOf (R .significand)) × (i ≡ R .exponent)))
+      → (0 ≡ R .number) × ((s .significand ≡ significandIn (R .significand)) × ((s .word ≡ wordIn (R .significand)) × (i ≡ R .exponent)))
   unfolding splitTold80
   parted80 s e i q j h =
-      subst (λ (t : SplitReport). (0 ≡ t .number) × ((s .significand ≡ significandOf (t .significand)) × ((s .word ≡ wordOf (t .significand)) × (i ≡ t .exponent))))
+      subst (λ (t : SplitReport). (0 ≡ t .number) × ((s .significand ≡ significandIn (t .significand)) × ((s .word ≡ wordIn (t .significand)) × (i ≡ t .exponent))))
       (ap splitTold80 (sym q) ∙ told) (refl, (significand-of s h, (word-of s h, j)))
 
   pub refused80 : (w : Refusal) (n significand word : ℕ) (exponent : ℤ) → a ≡ split80.Refused w → n ≡ refusalNumber w
       → (n ≡ R .number)
-      × ((significand ≡ after n (significandOf (R .significand)) significand) × ((word ≡ after n (wordOf (R .significand)) word) × (exponent ≡ after n (R .exponent) exponent)))
+      × ((significand ≡ after n (significandIn (R .significand)) significand) × ((word ≡ after n (wordIn (R .significand)) word) × (exponent ≡ after n (R .exponent) exponent)))
   unfolding splitTold80
   refused80 w n significand word exponent e i =
       (i ∙ ap (λ (t : SplitReport). t .number) (ap splitTold80 (sym e) ∙ told), (kept w n _ significand i, (kept w n _ word i, kept w n _ exponent i)))

@@ -16,11 +16,11 @@ after number answer lent = cond (accepted number) answer lent
 abbrev pub pattern : ℕ → ℕ → ℕ
 pattern significand word = word * 2 ^ 64 + significand
 
-abbrev pub significandOf : ℕ → ℕ
-significandOf b = b % 2 ^ 64
+abbrev pub significandIn : ℕ → ℕ
+significandIn b = b % 2 ^ 64
 
-abbrev pub wordOf : ℕ → ℕ
-wordOf b = b / 2 ^ 64
+abbrev pub wordIn : ℕ → ℕ
+wordIn b = b / 2 ^ 64
 
 -- an exported step or run lends a block as long as this one
 abbrev pub lending : List ℕ → Lent

@@ -12,7 +12,7 @@ ghost use mathlib.Core.Path.{_≡_};
 ghost use Rattle.definitions.specs.Format.{binary16, binary32, binary64, x87};
 ghost use Rattle.definitions.specs.Remainder.{remainder};
 ghost use Rattle.definitions.specs.Block.{kindOf};
-ghost use Rattle.capi.specs.Interface.{after, significandOf, wordOf, pattern};
+ghost use Rattle.capi.specs.Interface.{after, significandIn, wordIn, pattern};
 
 #[no_mangle]
 pub extern "C" fn zk_rem16(x: u16, y: u16, kind: u32, value: &mut u16, quotient: &mut u32) -> u8
@@ -83,8 +83,8 @@ pub extern "C" fn zk_rem80(
     quotient: &mut u32,
 ) -> u8
     ensures number { λ r. ⌜ r ≡ remainder x87 (kindOf kind) (pattern x xw) (pattern y yw) .number ⌝ }
-    ensures value { λ r. ⌜ now (value .exit) ≡ after r (significandOf (remainder x87 (kindOf kind) (pattern x xw) (pattern y yw) .value)) (now (value .entry)) ⌝ }
-    ensures valuew { λ r. ⌜ now (valuew .exit) ≡ after r (wordOf (remainder x87 (kindOf kind) (pattern x xw) (pattern y yw) .value)) (now (valuew .entry)) ⌝ }
+    ensures value { λ r. ⌜ now (value .exit) ≡ after r (significandIn (remainder x87 (kindOf kind) (pattern x xw) (pattern y yw) .value)) (now (value .entry)) ⌝ }
+    ensures valuew { λ r. ⌜ now (valuew .exit) ≡ after r (wordIn (remainder x87 (kindOf kind) (pattern x xw) (pattern y yw) .value)) (now (valuew .entry)) ⌝ }
     ensures quotient { λ r. ⌜ now (quotient .exit) ≡ after r (remainder x87 (kindOf kind) (pattern x xw) (pattern y yw) .quotient) (now (quotient .entry)) ⌝ }
 {
     let dividend = Extended {

@@ -11,7 +11,7 @@ use scaling::scale::scale80;
 ghost use mathlib.Core.Path.{_≡_};
 ghost use Rattle.definitions.specs.Format.{binary16, binary32, binary64, x87};
 ghost use Rattle.definitions.specs.Scale.{scaleReport};
-ghost use Rattle.capi.specs.Interface.{after, saysNumber, significandOf, wordOf, pattern};
+ghost use Rattle.capi.specs.Interface.{after, saysNumber, significandIn, wordIn, pattern};
 
 #[no_mangle]
 pub extern "C" fn zk_scale16(x: u16, power: i32, value: &mut u16, says: &mut u8) -> u8
@@ -71,8 +71,8 @@ pub extern "C" fn zk_scale80(
     says: &mut u8,
 ) -> u8
     ensures number { λ r. ⌜ r ≡ scaleReport x87 (pattern x xw) power .number ⌝ }
-    ensures value { λ r. ⌜ now (value .exit) ≡ after r (significandOf (scaleReport x87 (pattern x xw) power .value)) (now (value .entry)) ⌝ }
-    ensures valuew { λ r. ⌜ now (valuew .exit) ≡ after r (wordOf (scaleReport x87 (pattern x xw) power .value)) (now (valuew .entry)) ⌝ }
+    ensures value { λ r. ⌜ now (value .exit) ≡ after r (significandIn (scaleReport x87 (pattern x xw) power .value)) (now (value .entry)) ⌝ }
+    ensures valuew { λ r. ⌜ now (valuew .exit) ≡ after r (wordIn (scaleReport x87 (pattern x xw) power .value)) (now (valuew .entry)) ⌝ }
     ensures says { λ r. ⌜ now (says .exit) ≡ after r (saysNumber (scaleReport x87 (pattern x xw) power .says)) (now (says .entry)) ⌝ }
 {
     let operand = Extended {

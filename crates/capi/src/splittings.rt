@@ -10,7 +10,7 @@ use scaling::split::split80;
 ghost use mathlib.Core.Path.{_≡_};
 ghost use Rattle.definitions.specs.Format.{binary16, binary32, binary64, x87};
 ghost use Rattle.definitions.specs.Scale.{splitReport};
-ghost use Rattle.capi.specs.Interface.{after, significandOf, wordOf, pattern};
+ghost use Rattle.capi.specs.Interface.{after, significandIn, wordIn, pattern};
 
 #[no_mangle]
 pub extern "C" fn zk_split16(x: u16, significand: &mut u16, exponent: &mut i32) -> u8
@@ -78,8 +78,8 @@ pub extern "C" fn zk_split80(
     exponent: &mut i32,
 ) -> u8
     ensures number { λ r. ⌜ r ≡ splitReport x87 (pattern x xw) .number ⌝ }
-    ensures significand { λ r. ⌜ now (significand .exit) ≡ after r (significandOf (splitReport x87 (pattern x xw) .significand)) (now (significand .entry)) ⌝ }
-    ensures significandw { λ r. ⌜ now (significandw .exit) ≡ after r (wordOf (splitReport x87 (pattern x xw) .significand)) (now (significandw .entry)) ⌝ }
+    ensures significand { λ r. ⌜ now (significand .exit) ≡ after r (significandIn (splitReport x87 (pattern x xw) .significand)) (now (significand .entry)) ⌝ }
+    ensures significandw { λ r. ⌜ now (significandw .exit) ≡ after r (wordIn (splitReport x87 (pattern x xw) .significand)) (now (significandw .entry)) ⌝ }
     ensures exponent { λ r. ⌜ now (exponent .exit) ≡ after r (splitReport x87 (pattern x xw) .exponent) (now (exponent .entry)) ⌝ }
 {
     let operand = Extended {
