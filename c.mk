@@ -3,7 +3,7 @@
 #
 #   outside         the quick tests: header, examples, readings, vectors, lent memory, runs, lists, binary16, the processor, the C library (about a minute)
 #   outside-long    runs, the processor and the C library with ten million operand pairs a format, then a second C library (musl) and MPFR
-#   outside-half    all 2^32 pairs of binary16, both kinds, against whole-number division and the second implementation (some 40 minutes)
+#   outside-half    all 2^32 pairs of binary16, both kinds, against whole-number division and the second implementation (some 30 minutes)
 #   outside-faults  the quick tests on a library with one fault at a time: each fault has to be noticed
 #   bench           times and ratios, then instructions by callgrind
 #   bench-lines     the line program against the same job by scanf, fmod and printf

@@ -1,7 +1,7 @@
 /*
  * A host that folds angles onto one turn and feed lengths onto one roller, exactly.
  *
- *   gcc fold_angle.c -lzukemoriha      (after make install; or give the archive itself)
+ *   gcc fold_angle.c $(pkg-config --cflags --libs zukemoriha)      (after make install)
  */
 #include "zukemoriha.h"
 

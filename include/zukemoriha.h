@@ -97,9 +97,9 @@ uint8_t zk_rem80(uint64_t x, uint16_t xw, uint64_t y, uint16_t yw, uint32_t kind
 
 /*
  * One step, as FPREM (kind 0) or FPREM1 makes it, with the size n that the manuals leave to the processor. D is the exponent of x less
- * that of y. If D < 64 the step finishes (0) with the remainder and the quotient bits of one call. Otherwise it is partial (1): with
- * QQ = |x|/|y|/2^(D-n) cut, in both kinds, the value is x less QQ * 2^(D-n) times y, and the quotient bits are those of QQ * 2^(D-n),
- * modulo 8. A zero partial value is still partial: the next step finishes.
+ * that of y, and 0 for a zero x. If D < 64 the step finishes (0) with the remainder and the quotient bits of one call. Otherwise it is
+ * partial (1): with QQ = |x|/|y|/2^(D-n) cut, in both kinds, the value is x less QQ * 2^(D-n) times y, and the quotient bits are those of
+ * QQ * 2^(D-n), modulo 8. A zero partial value is still partial: the next step finishes.
  * Refuses with 9, 6, 2, 3, 4 or 5. length is the block's length in bytes.
  */
 uint8_t zk_step80(uint64_t x, uint16_t xw, uint64_t y, uint16_t yw, uint32_t size, uint32_t kind, uint8_t *block, size_t length);
