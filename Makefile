@@ -1,19 +1,211 @@
-# Everything that README.md names.
-#
-#   make run        builds the line program, proved, and runs it on its sample
-#   make test       the gate: layout, the tests from outside, then rt ci, whose last line is the verdict
-#   make outside    the tests from outside alone (about a minute; the archive is proved and built first)
-# c.mk has the rest: outside-long, outside-half, bench, examples, install, install-check
+# Everything that README.md names: `make help` lists it. All that is made lies below target/.
 
-.PHONY: run test
+prefix = /usr/local
+libdir = $(prefix)/lib
+includedir = $(prefix)/include
+pkgconfigdir = $(libdir)/pkgconfig
 
-run:
+CC = gcc
+CXX = g++
+CARGO = cargo
+RUSTC = rustc
+INSTALL = install
+
+SHELL = /bin/bash
+.SHELLFLAGS = -e -o pipefail -c
+.DEFAULT_GOAL = help
+
+# The library that tests, examples and the installation link. Another one is taken as it is.
+LIB = target/libzukemoriha.a
+# where the C programs and the Rust crates are built
+out = target/c
+# the same, on a library that can make mistakes
+faults = target/faulty
+
+exports = export_remainder export_steps export_scaling export_lists
+programs = host untouched chains fold half fprem libm ldexp
+version = $(shell sed -n 's/^\#define ZK_VERSION "\(.*\)"/\1/p' include/zukemoriha.h)
+warnings = -Wall -Wextra -pedantic
+cflags = -std=c99 -O2 $(warnings) -Iinclude
+# what is compared or measured is the C library's function, not what the compiler makes of its name
+unbuilt = $(foreach n,fmod remainder remquo ldexp frexp,-fno-builtin-$(n) -fno-builtin-$(n)f -fno-builtin-$(n)l)
+parallel = $(MAKE) --no-print-directory -j$$(nproc) --output-sync=target
+headers = tests/calls.h tests/operands.h include/zukemoriha.h
+# nothing comes from a registry
+cargo = env CARGO_TARGET_DIR=$(abspath $(out))/rust ZUKEMORIHA_LIB_DIR=$(abspath $(dir $(LIB))) $(CARGO)
+
+# ---- what README.md names
+
+.PHONY: help run test check check-long check-faults bench times archive install uninstall clean
+
+help: ## this list
+	@sed -n 's/^\([a-z-]*\):.*## \(.*\)/  make \1\t\2/p' $(firstword $(MAKEFILE_LIST)) | expand -t 22
+
+run: ## prove and build the line program, and run it on its sample (a minute)
 	rt check remainder_lines
 	target/bin/remainder_lines < examples/lines.in
 
-test: tools
+# rt ci proves all from nothing; the archive is built of what it has proved; its verdict is held back until the tests have passed too
+test: tools ## the gate: every proof, every edit that must be refused, every test; ends in 'N passed, 0 failed'
 	rt fmt --check
-	$(MAKE) outside
-	rt ci
+	rt ci | awk -f tests/held.awk || { cat target/verdict; exit 1; }
+	$(parallel) tests
+	@cat target/verdict
 
-include c.mk
+check: tools ## what has changed is proved, then the tests from outside (minutes)
+	rt check
+	$(parallel) tests
+
+check-long: long-half $(addprefix long-,chains fprem libm ldexp libm-musl ldexp-musl mpfr) ## ten million cases a format, musl, MPFR, all pairs of binary16 (an hour)
+
+check-faults: $(faults)/libzukemoriha.a ## the tests on a library with one fault at a time: each has to be noticed
+	$(MAKE) --no-print-directory out=$(faults) LIB=$< noticed
+
+bench: bench-calls bench-lines ## times, ratios and instructions of calls, then the line program
+
+times: ## the seconds of each crate and each edit in the last `make test`
+	@awk -f tests/times.awk target/ci.log
+
+archive: target/libzukemoriha.a ## prove and build the library that a host links, target/libzukemoriha.a
+
+install: $(LIB) ## to prefix (/usr/local), libdir, includedir, below DESTDIR
+	$(INSTALL) -d $(DESTDIR)$(libdir) $(DESTDIR)$(pkgconfigdir) $(DESTDIR)$(includedir)
+	$(INSTALL) -m 644 $(LIB) $(DESTDIR)$(libdir)/libzukemoriha.a
+	$(INSTALL) -m 644 include/zukemoriha.h $(DESTDIR)$(includedir)/zukemoriha.h
+	sed 's|@prefix@|$(abspath $(prefix))|; s|@libdir@|$(abspath $(libdir))|; s|@includedir@|$(abspath $(includedir))|; s|@version@|$(version)|' \
+	    zukemoriha.pc.in > $(DESTDIR)$(pkgconfigdir)/zukemoriha.pc
+	chmod 644 $(DESTDIR)$(pkgconfigdir)/zukemoriha.pc
+
+uninstall: ## what install has put there
+	rm -f $(DESTDIR)$(libdir)/libzukemoriha.a $(DESTDIR)$(includedir)/zukemoriha.h $(DESTDIR)$(pkgconfigdir)/zukemoriha.pc
+
+clean: ## remove target/, which holds all that is made
+	rm -rf target
+
+# ---- what the commands need beyond the kit: Debian's packages, where something is missing
+
+.PHONY: tools peers meters
+
+debian = { apt-get update && apt-get install -y $(1); }
+
+tools:
+	@which $(CC) $(CXX) ar pkg-config $(CARGO) $(RUSTC) > /dev/null || $(call debian,gcc g++ libc6-dev binutils pkg-config cargo rustc)
+
+peers:
+	@which musl-gcc > /dev/null && test -f /usr/include/mpfr.h || $(call debian,musl-tools libmpfr-dev)
+
+meters:
+	@which valgrind > /dev/null || $(call debian,valgrind)
+
+# ---- the archive
+
+# rt proves again what has changed, and compiles each crate of exports; ar joins their objects
+target/libzukemoriha.a: $(shell find crates -name '*.rt' -o -name '*.antt') crates.txt | tools
+	rt check $(exports)
+	for crate in $(exports); do rt staticlib $$crate; done
+	rm -f $@
+	{ echo create $@; printf 'addlib target/staticlib/lib%s.a\n' $(exports); echo save; echo end; } | ar -M
+
+# which archive the programs are linked with: another one is another sum, whatever its date
+$(out)/archive.sum: $(LIB) always | $(out)
+	@sha256sum $(LIB) | cmp -s - $@ || sha256sum $(LIB) > $@
+
+$(out): | tools
+	mkdir -p $@
+
+.PHONY: always
+
+always:
+
+# ---- tests from outside
+
+.PHONY: tests header examples install-check rust $(addprefix test-,$(programs))
+
+tests: header examples install-check rust $(addprefix test-,$(programs))
+
+header: | tools
+	echo '#include "zukemoriha.h"' | $(CC) -std=c99 $(warnings) -Werror -Iinclude -fsyntax-only -x c -
+	echo '#include "zukemoriha.h"' | $(CXX) $(warnings) -Werror -Iinclude -fsyntax-only -x c++ -
+
+$(out)/%: examples/%.c include/zukemoriha.h $(out)/archive.sum
+	$(CC) $(cflags) $< $(LIB) -o $@
+
+examples: $(out)/fold_angle $(out)/step80
+	$(out)/fold_angle | diff examples/fold_angle.out -
+	$(out)/step80 | diff examples/step80.out -
+
+install-check: $(out)/archive.sum
+	$(MAKE) --no-print-directory install prefix=$(out)/prefix DESTDIR= LIB=$(LIB)
+	export PKG_CONFIG_PATH=$(out)/prefix/lib/pkgconfig; \
+	$(CC) -std=c99 $(warnings) examples/fold_angle.c $$(pkg-config --cflags --libs zukemoriha) -o $(out)/installed
+	$(out)/installed | diff examples/fold_angle.out -
+	$(MAKE) --no-print-directory uninstall prefix=$(out)/prefix DESTDIR=
+	test -z "$$(find $(out)/prefix -type f)"
+
+rust: $(out)/archive.sum
+	cd rust && $(cargo) test --release --offline
+
+$(out)/%: tests/%.c $(headers) $(out)/archive.sum
+	$(CC) $(cflags) $(unbuilt) -Itests $< $(LIB) -lm -o $@
+
+$(out)/host: tests/host.cc include/zukemoriha.h $(out)/archive.sum
+	$(CXX) -O2 $(warnings) -Iinclude $< $(LIB) -o $@
+
+$(addprefix test-,$(programs)): test-%: $(out)/%
+	$<
+
+# ---- the long part
+
+.PHONY: long-half $(addprefix long-,chains fprem libm ldexp libm-musl ldexp-musl mpfr)
+
+cases = 10000000
+seed = 2
+
+# a second C library: the same programs, linked with it
+$(out)/%-musl: tests/%.c $(headers) $(out)/archive.sum | peers
+	musl-gcc -static $(cflags) $(unbuilt) -Itests $< $(LIB) -lm -o $@
+
+$(out)/mpfr: tests/mpfr.c $(headers) $(out)/archive.sum | peers
+	$(CC) $(cflags) -Itests $< $(LIB) -lmpfr -lgmp -o $@
+
+$(addprefix long-,chains fprem libm ldexp libm-musl ldexp-musl mpfr): long-%: $(out)/%
+	$< $(cases) $(seed)
+
+# all pairs of binary16: against whole-number division, and against the second implementation
+long-half: $(out)/half
+	$(out)/half 1
+	cd rust && $(cargo) run --release --offline --bin half
+
+# ---- faults: the exports renamed, and functions of the same names before them that make one mistake
+
+.PHONY: noticed
+
+$(faults)/libzukemoriha.a: tests/faults.c include/zukemoriha.h target/libzukemoriha.a
+	mkdir -p $(faults)
+	sed -n 's/^\(uint8_t\|void\) \(zk_[a-z0-9_]*\)(.*/\2 real_\2/p' include/zukemoriha.h > $(faults)/names
+	objcopy --redefine-syms=$(faults)/names target/libzukemoriha.a $@
+	$(CC) $(cflags) -c tests/faults.c -o $(faults)/faults.o
+	ar r $@ $(faults)/faults.o
+
+noticed: rust $(addprefix $(out)/,$(programs))
+	sh tests/faults.sh $(out) '$(cargo)'
+
+# ---- measurements
+
+.PHONY: bench-calls bench-lines
+
+# an object and not a whole Rust archive: that one brings a fmod of its own, which would be linked in the C library's place
+$(out)/shift.o: bench/shift.rs | $(out)
+	$(RUSTC) -O -C panic=abort --crate-type staticlib --emit obj $< -o $@
+
+$(out)/bench: bench/bench.c $(out)/shift.o include/zukemoriha.h $(out)/archive.sum
+	$(CC) $(cflags) $(unbuilt) $< $(out)/shift.o $(LIB) -lm -o $@
+
+bench-calls: $(out)/bench | meters
+	$(out)/bench
+	sh bench/callgrind.sh $(out)/bench
+
+bench-lines: | $(out)
+	rt check remainder_lines
+	$(CC) -std=c99 -O2 $(warnings) bench/lines.c -lm -o $(out)/lines
+	sh bench/lines.sh $(out)/lines target/bin/remainder_lines

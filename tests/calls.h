@@ -11,6 +11,7 @@
 #include <stdio.h>
 #include <stdlib.h>
 #include <string.h>
+#include <unistd.h>
 
 enum { BINARY16, BINARY32, BINARY64, X87, FORMATS };
 
@@ -205,6 +206,16 @@ static inline struct reply call_split(int f, struct pattern x) {
     r.touched = !kept(&value, answered ? (size_t)formats[f].width : 0) || !kept(&word, answered && f == X87 ? 2 : 0) ||
                 !kept(&exponent, answered ? 4 : 0);
     return r;
+}
+
+/* Whether a loop over `all` cases goes on. On a terminal it shows how far it is. */
+static inline int going(uint64_t done, uint64_t all) {
+    int shown = (done % 4096 == 0 || done == all) && isatty(STDERR_FILENO);
+    if (shown && done < all)
+        fprintf(stderr, "\r%3u%%", (unsigned)(100 * done / all));
+    if (shown && done == all)
+        fputs("\r    \r", stderr);
+    return done < all;
 }
 
 /* Differences: all are counted, the first ones printed. */

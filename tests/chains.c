@@ -77,7 +77,7 @@ int main(int argc, char **argv) {
     uint64_t pairs = pairs_asked(argc, argv, 200000), state = seed_asked(argc, argv), i;
     struct coverage seen;
     memset(&seen, 0, sizeof seen);
-    for (i = 0; i < pairs; i++) {
+    for (i = 0; going(i, pairs); i++) {
         struct pair p = any_pair(X87, &state);
         uint32_t size = any_size(&state), kind = (uint32_t)below(&state, 2);
         cover(&seen, X87, p);

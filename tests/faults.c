@@ -1,12 +1,13 @@
 /*
- * The library with one fault at a time: what the other programs here are worth. They are linked with the linker's --wrap, so that each of
- * their calls comes here first, and FAULT in the environment says which fault is made. tests/faults.sh runs them.
+ * The library with one fault at a time: what the tests are worth. In the archive that they are linked with the exports are called real_*,
+ * and the functions here have their names; FAULT in the environment says which fault is made. tests/faults.sh runs them.
  */
 #include "zukemoriha.h"
 
 #include <stdlib.h>
+#include <string.h>
 
-#define REAL(function, ...) uint8_t __real_##function(__VA_ARGS__), __wrap_##function(__VA_ARGS__)
+#define REAL(function, ...) uint8_t real_##function(__VA_ARGS__)
 REAL(zk_rem16, uint16_t x, uint16_t y, uint32_t kind, uint16_t *value, uint32_t *quotient);
 REAL(zk_rem32, uint32_t x, uint32_t y, uint32_t kind, uint32_t *value, uint32_t *quotient);
 REAL(zk_rem64, uint64_t x, uint64_t y, uint32_t kind, uint64_t *value, uint32_t *quotient);
@@ -25,30 +26,32 @@ REAL(zk_split80, uint64_t x, uint16_t xw, uint64_t *significand, uint16_t *signi
 REAL(zk_fold64, const uint64_t *x, size_t nx, uint64_t *results, size_t nr, uint8_t *quotients, size_t nq, uint64_t y, uint32_t kind,
      size_t *marked);
 
-static int fault(int n) {
-    static int asked = -1;
-    const char *text = getenv("FAULT");
-    if (asked < 0)
-        asked = text ? atoi(text) : 0;
-    return asked == n;
+static int fault(const char *name) {
+    static const char *asked;
+    if (!asked) {
+        asked = getenv("FAULT");
+        if (!asked)
+            asked = "none";
+    }
+    return strcmp(asked, name) == 0;
 }
 
 static const uint64_t sign64 = UINT64_C(0x8000000000000000), infinity64 = UINT64_C(0x7FF0000000000000);
 
-uint8_t __wrap_zk_rem16(uint16_t x, uint16_t y, uint32_t kind, uint16_t *value, uint32_t *quotient) {
-    uint8_t number = __real_zk_rem16(x, y, kind, value, quotient);
-    if (fault(1) && number == ZK_FINISHED && (y & 0x7FFF) == 0x7C00 && (x & 0x7FFF) < 0x400)
+uint8_t zk_rem16(uint16_t x, uint16_t y, uint32_t kind, uint16_t *value, uint32_t *quotient) {
+    uint8_t number = real_zk_rem16(x, y, kind, value, quotient);
+    if (fault("rem16-denormal-by-infinity-is-zero") && number == ZK_FINISHED && (y & 0x7FFF) == 0x7C00 && (x & 0x7FFF) < 0x400)
         *value = x & 0x8000; /* by infinity, a denormal is taken for a zero */
-    if (fault(2) && number == ZK_INFINITE && (y & 0x7FFF) == 0)
+    if (fault("rem16-infinity-by-zero-is-five") && number == ZK_INFINITE && (y & 0x7FFF) == 0)
         return ZK_ZERO_DIVISOR; /* infinity by zero */
     return number;
 }
 
-uint8_t __wrap_zk_rem32(uint32_t x, uint32_t y, uint32_t kind, uint32_t *value, uint32_t *quotient) {
-    uint8_t number = __real_zk_rem32(x, y, kind, value, quotient);
-    if (fault(3) && number == ZK_FINISHED && kind && *quotient == 0 && *value != x)
+uint8_t zk_rem32(uint32_t x, uint32_t y, uint32_t kind, uint32_t *value, uint32_t *quotient) {
+    uint8_t number = real_zk_rem32(x, y, kind, value, quotient);
+    if (fault("rem32-eight-is-not-folded") && number == ZK_FINISHED && kind && *quotient == 0 && *value != x)
         *quotient = 8; /* eight is not folded onto nothing */
-    if (fault(4) && number == ZK_NAN && (x & 0x7FFFFFFF) == 0x7F800000)
+    if (fault("rem32-infinite-dividend-before-nan") && number == ZK_NAN && (x & 0x7FFFFFFF) == 0x7F800000)
         return ZK_INFINITE; /* an infinite dividend is judged before a NaN divisor */
     return number;
 }
@@ -57,160 +60,160 @@ uint8_t __wrap_zk_rem32(uint32_t x, uint32_t y, uint32_t kind, uint32_t *value, 
 static void half_up(uint64_t x, uint64_t y, uint64_t *value, uint32_t *quotient) {
     uint64_t cut;
     uint32_t bits;
-    __real_zk_rem64(x, y, ZK_TRUNCATED, &cut, &bits);
+    real_zk_rem64(x, y, ZK_TRUNCATED, &cut, &bits);
     if (2 * zk_double_of_pattern(cut & ~sign64) == zk_double_of_pattern(y & ~sign64)) {
         *value = cut ^ sign64;
         *quotient = (bits + 1) & 7;
     }
 }
 
-uint8_t __wrap_zk_rem64(uint64_t x, uint64_t y, uint32_t kind, uint64_t *value, uint32_t *quotient) {
-    uint8_t number = __real_zk_rem64(x, y, kind, value, quotient);
+uint8_t zk_rem64(uint64_t x, uint64_t y, uint32_t kind, uint64_t *value, uint32_t *quotient) {
+    uint8_t number = real_zk_rem64(x, y, kind, value, quotient);
     int fields = (int)(x >> 52 & 2047) - (int)(y >> 52 & 2047);
-    if (fault(5) && number == ZK_FINISHED && kind)
+    if (fault("rem64-half-always-up") && number == ZK_FINISHED && kind)
         half_up(x, y, value, quotient);
-    if (fault(6) && number == ZK_FINISHED && *value == sign64)
+    if (fault("rem64-zero-loses-its-sign") && number == ZK_FINISHED && *value == sign64)
         *value = 0; /* the sign of a zero is lost */
-    if (fault(7) && number == ZK_FINISHED && fields >= 1000)
+    if (fault("rem64-far-quotient-of-two-bits") && number == ZK_FINISHED && fields >= 1000)
         *quotient &= 3; /* two bits of a far quotient */
-    if (fault(8) && number == ZK_NAN)
+    if (fault("rem64-refusal-writes") && number == ZK_NAN)
         *quotient = 0; /* a refusal writes */
     return number;
 }
 
-uint8_t __wrap_zk_rem80(uint64_t x, uint16_t xw, uint64_t y, uint16_t yw, uint32_t kind, uint64_t *value, uint16_t *valuew,
+uint8_t zk_rem80(uint64_t x, uint16_t xw, uint64_t y, uint16_t yw, uint32_t kind, uint64_t *value, uint16_t *valuew,
                         uint32_t *quotient) {
-    uint8_t number = __real_zk_rem80(x, xw, y, yw, kind, value, valuew, quotient);
-    if (fault(9) && number == ZK_UNSUPPORTED && (xw & 32767) == 32767 && x == sign64)
+    uint8_t number = real_zk_rem80(x, xw, y, yw, kind, value, valuew, quotient);
+    if (fault("rem80-infinite-dividend-before-unsupported") && number == ZK_UNSUPPORTED && (xw & 32767) == 32767 && x == sign64)
         return ZK_INFINITE; /* an infinite dividend is judged before an unsupported divisor */
-    if (fault(10) && number == ZK_FINISHED && *value == 0)
+    if (fault("rem80-zero-has-the-divisors-sign") && number == ZK_FINISHED && *value == 0)
         *valuew = yw & 0x8000; /* a zero has the divisor's sign */
     return number;
 }
 
-uint8_t __wrap_zk_step80(uint64_t x, uint16_t xw, uint64_t y, uint16_t yw, uint32_t size, uint32_t kind, uint8_t *block, size_t length) {
+uint8_t zk_step80(uint64_t x, uint16_t xw, uint64_t y, uint16_t yw, uint32_t size, uint32_t kind, uint8_t *block, size_t length) {
     uint8_t number;
-    if (fault(11) && (size < ZK_SIZE_LEAST || size > ZK_SIZE_MOST))
+    if (fault("step-size-before-length") && (size < ZK_SIZE_LEAST || size > ZK_SIZE_MOST))
         return ZK_BAD_SIZE; /* the size is judged before the length */
-    if (fault(12) && size == 63)
+    if (fault("step-size-63-is-62") && size == 63)
         size = 62;
-    if (fault(13))
+    if (fault("step-size-cut-to-a-byte"))
         size &= 255;
-    if (fault(14))
+    if (fault("step-length-cut-to-a-byte"))
         length &= 255;
-    number = __real_zk_step80(x, xw, y, yw, size, kind, block, length);
-    if (fault(15) && number == ZK_PARTIAL && block[11] == 4)
+    number = real_zk_step80(x, xw, y, yw, size, kind, block, length);
+    if (fault("step-part-of-four-lost") && number == ZK_PARTIAL && block[11] == 4)
         block[11] = 0; /* a part of four is lost */
-    if (fault(16) && number == ZK_PARTIAL && zk_block_significand(block) == 0)
+    if (fault("step-zero-loses-its-sign") && number == ZK_PARTIAL && zk_block_significand(block) == 0)
         block[9] = 0; /* the sign of a zero partial value */
-    if (fault(17) && number == ZK_PARTIAL && zk_block_significand(block) == 0)
+    if (fault("step-zero-finishes") && number == ZK_PARTIAL && zk_block_significand(block) == 0)
         return block[10] = ZK_FINISHED; /* a zero partial value finishes */
-    if (fault(18) && number == ZK_PARTIAL)
+    if (fault("step-partial-not-counted") && number == ZK_PARTIAL)
         block[12] = 0; /* a partial step is not counted */
     return number;
 }
 
-uint8_t __wrap_zk_run80(uint64_t x, uint16_t xw, uint64_t y, uint16_t yw, uint32_t size, uint32_t kind, uint32_t budget, uint8_t *block,
+uint8_t zk_run80(uint64_t x, uint16_t xw, uint64_t y, uint16_t yw, uint32_t size, uint32_t kind, uint32_t budget, uint8_t *block,
                         size_t length) {
     uint8_t number, before[ZK_BLOCK_LENGTH];
-    if (fault(19) && budget == 0)
+    if (fault("run-budget-0-is-1") && budget == 0)
         budget = 1;
-    if (fault(20))
+    if (fault("run-budget-cut-to-16-bits"))
         budget &= 65535;
-    number = __real_zk_run80(x, xw, y, yw, size, kind, budget, block, length);
-    if (fault(21) && number == ZK_FINISHED && zk_block_steps(block) > 1) {
+    number = real_zk_run80(x, xw, y, yw, size, kind, budget, block, length);
+    if (fault("run-bits-of-the-last-step") && number == ZK_FINISHED && zk_block_steps(block) > 1) {
         /* the bits of the last step alone */
-        __real_zk_run80(x, xw, y, yw, size, kind, zk_block_steps(block) - 1, before, sizeof before);
+        real_zk_run80(x, xw, y, yw, size, kind, zk_block_steps(block) - 1, before, sizeof before);
         block[11] = (block[11] - before[11]) & 7;
     }
-    if (fault(22) && number == ZK_FINISHED && zk_block_steps(block) == budget)
+    if (fault("run-spent-by-its-last-step") && number == ZK_FINISHED && zk_block_steps(block) == budget)
         return block[10] = ZK_SPENT; /* spent by its last step */
-    if (fault(23) && zk_is_answer(number) && zk_block_steps(block) > 511)
+    if (fault("run-a-step-too-many") && zk_is_answer(number) && zk_block_steps(block) > 511)
         block[12]++; /* a step too many in long runs */
     return number;
 }
 
-uint8_t __wrap_zk_scale16(uint16_t x, int32_t power, uint16_t *value, uint8_t *says) {
-    uint8_t number = __real_zk_scale16(x, power, value, says);
-    if (fault(24) && number == ZK_FINISHED && *says == ZK_DOWN && power < -64)
+uint8_t zk_scale16(uint16_t x, int32_t power, uint16_t *value, uint8_t *says) {
+    uint8_t number = real_zk_scale16(x, power, value, says);
+    if (fault("scale16-nothing-left-is-exact") && number == ZK_FINISHED && *says == ZK_DOWN && power < -64)
         *says = ZK_EXACT; /* nothing is left, and said to be exact */
     return number;
 }
 
-uint8_t __wrap_zk_scale32(uint32_t x, int32_t power, uint32_t *value, uint8_t *says) {
-    uint8_t number = __real_zk_scale32(x, power, value, says);
-    if (fault(25) && number == ZK_FINISHED && *says == ZK_UP && (*value & 0x7FFFFFFF) == 0x00800000) {
+uint8_t zk_scale32(uint32_t x, int32_t power, uint32_t *value, uint8_t *says) {
+    uint8_t number = real_zk_scale32(x, power, value, says);
+    if (fault("scale32-no-carry-into-normals") && number == ZK_FINISHED && *says == ZK_UP && (*value & 0x7FFFFFFF) == 0x00800000) {
         *value -= 1; /* no carry into the smallest normal number */
         *says = ZK_DOWN;
     }
-    if (fault(26) && number == ZK_FINISHED && *says == ZK_DOWN && *value == 0x80000000)
+    if (fault("scale32-nothing-loses-its-sign") && number == ZK_FINISHED && *says == ZK_DOWN && *value == 0x80000000)
         *value = 0; /* the sign of what is rounded to nothing */
     return number;
 }
 
-uint8_t __wrap_zk_scale64(uint64_t x, int32_t power, uint64_t *value, uint8_t *says) {
+uint8_t zk_scale64(uint64_t x, int32_t power, uint64_t *value, uint8_t *says) {
     uint8_t number;
-    if (fault(27) && power > 2097)
+    if (fault("scale64-power-held-to-2097") && power > 2097)
         power = 2097; /* one short of taking the smallest denormal past the end */
-    number = __real_zk_scale64(x, power, value, says);
-    if (fault(28) && number == ZK_FINISHED && *says == ZK_UP && (*value & ~sign64) == infinity64)
+    number = real_zk_scale64(x, power, value, says);
+    if (fault("scale64-overflow-is-down") && number == ZK_FINISHED && *says == ZK_UP && (*value & ~sign64) == infinity64)
         *says = ZK_DOWN; /* what infinity from a finite value is said to be */
     return number;
 }
 
-uint8_t __wrap_zk_scale80(uint64_t x, uint16_t xw, int32_t power, uint64_t *value, uint16_t *valuew, uint8_t *says) {
+uint8_t zk_scale80(uint64_t x, uint16_t xw, int32_t power, uint64_t *value, uint16_t *valuew, uint8_t *says) {
     uint8_t number;
-    if (fault(29) && (xw & 32767) == 0 && x > sign64)
+    if (fault("scale80-pseudo-denormal-is-a-number") && (xw & 32767) == 0 && x > sign64)
         xw++; /* e = 0 with J = 1 is taken as a number */
-    number = __real_zk_scale80(x, xw, power, value, valuew, says);
-    if (fault(30) && number == ZK_NAN)
+    number = real_zk_scale80(x, xw, power, value, valuew, says);
+    if (fault("scale80-refusal-writes") && number == ZK_NAN)
         *valuew = 0x7FFF; /* a refusal writes */
     return number;
 }
 
-uint8_t __wrap_zk_split16(uint16_t x, uint16_t *significand, int32_t *exponent) {
-    uint8_t number = __real_zk_split16(x, significand, exponent);
-    if (fault(31) && number == ZK_FINISHED && (x & 0x7FFF) < 0x400)
+uint8_t zk_split16(uint16_t x, uint16_t *significand, int32_t *exponent) {
+    uint8_t number = real_zk_split16(x, significand, exponent);
+    if (fault("split16-denormal-loses-its-sign") && number == ZK_FINISHED && (x & 0x7FFF) < 0x400)
         *significand &= 0x7FFF; /* the sign of a denormal */
     return number;
 }
 
-uint8_t __wrap_zk_split32(uint32_t x, uint32_t *significand, int32_t *exponent) {
-    uint8_t number = __real_zk_split32(x, significand, exponent);
-    if (fault(32) && number == ZK_ZERO_SPLIT)
+uint8_t zk_split32(uint32_t x, uint32_t *significand, int32_t *exponent) {
+    uint8_t number = real_zk_split32(x, significand, exponent);
+    if (fault("split32-zero-is-five") && number == ZK_ZERO_SPLIT)
         return ZK_ZERO_DIVISOR;
     return number;
 }
 
-uint8_t __wrap_zk_split64(uint64_t x, uint64_t *significand, int32_t *exponent) {
-    uint8_t number = __real_zk_split64(x, significand, exponent);
-    if (fault(33) && number == ZK_FINISHED && (x & infinity64) == 0)
+uint8_t zk_split64(uint64_t x, uint64_t *significand, int32_t *exponent) {
+    uint8_t number = real_zk_split64(x, significand, exponent);
+    if (fault("split64-denormal-exponent-from-its-field") && number == ZK_FINISHED && (x & infinity64) == 0)
         *exponent = -1022; /* a denormal's exponent from its field */
     return number;
 }
 
-uint8_t __wrap_zk_split80(uint64_t x, uint16_t xw, uint64_t *significand, uint16_t *significandw, int32_t *exponent) {
-    uint8_t number = __real_zk_split80(x, xw, significand, significandw, exponent);
-    if (fault(34) && number == ZK_FINISHED)
+uint8_t zk_split80(uint64_t x, uint16_t xw, uint64_t *significand, uint16_t *significandw, int32_t *exponent) {
+    uint8_t number = real_zk_split80(x, xw, significand, significandw, exponent);
+    if (fault("split80-from-a-half-to-1") && number == ZK_FINISHED)
         *exponent += 1, *significandw -= 1; /* as frexp splits, from a half to below 1 */
     return number;
 }
 
-uint8_t __wrap_zk_fold64(const uint64_t *x, size_t nx, uint64_t *results, size_t nr, uint8_t *quotients, size_t nq, uint64_t y,
+uint8_t zk_fold64(const uint64_t *x, size_t nx, uint64_t *results, size_t nr, uint8_t *quotients, size_t nq, uint64_t y,
                          uint32_t kind, size_t *marked) {
-    uint8_t number = __real_zk_fold64(x, nx, results, nr, quotients, nq, y, kind, marked);
+    uint8_t number = real_zk_fold64(x, nx, results, nr, quotients, nq, y, kind, marked);
     size_t i;
     for (i = 0; number == ZK_FINISHED && i < nx; i++) {
-        if (fault(35) && i > 30)
+        if (fault("fold-bits-of-the-first-places") && i > 30)
             quotients[i] = 0; /* bits of the first places alone */
-        if (fault(36) && quotients[i] == ZK_MARK)
+        if (fault("fold-mark-is-negative") && quotients[i] == ZK_MARK)
             results[i] |= sign64; /* the processor's NaN, which is negative */
-        if (fault(37) && quotients[i] != ZK_MARK && (results[i] & ~sign64) == 0)
+        if (fault("fold-zero-loses-its-sign") && quotients[i] != ZK_MARK && (results[i] & ~sign64) == 0)
             results[i] = 0; /* the sign of a zero */
     }
-    if (fault(38) && number == ZK_FINISHED)
+    if (fault("fold-count-cut-to-a-byte") && number == ZK_FINISHED)
         *marked &= 255;
-    if (fault(39) && number == ZK_NAN)
+    if (fault("fold-refusal-writes") && number == ZK_NAN)
         *marked = 0; /* a refusal writes */
     return number;
 }

@@ -1,26 +1,43 @@
 #!/bin/sh
-# Each fault of tests/faults.c, and the first program that notices it. Fails where none does, or where one complains of no fault.
-# faults.sh FOLDER    the folder that holds the programs, linked with the faults
+# Each fault that tests/faults.c can make, and the first tests that notice it, in C and in Rust. Fails where neither does, where Rust
+# misses one that a Rust host could see, or where a test complains of no fault.
+# faults.sh FOLDER CARGO    the folder with the C programs; the command that runs the Rust tests; both are linked with the faults
 set -eu
-folder=${1:?usage: faults.sh FOLDER}
-programs='readings untouched vectors chains fold ldexp libm half fprem'
-faults=39
-for program in $programs; do
-    "$folder/$program" > "$folder/log" || { echo "$program complains of no fault"; exit 1; }
-done
-fault=1
-missed=0
-while [ $fault -le $faults ]; do
-    noticed=nobody
+folder=${1:?usage: faults.sh FOLDER CARGO}
+cargo=${2:?usage: faults.sh FOLDER CARGO}
+programs='untouched chains fold ldexp libm half fprem'
+# what a refusal writes into a single lent number stays inside the safe Rust functions
+c_only='rem64-refusal-writes scale80-refusal-writes fold-refusal-writes'
+
+by_c() {
     for program in $programs; do
-        if ! FAULT=$fault "$folder/$program" > "$folder/log" 2>&1; then
-            noticed=$program
-            break
+        if ! FAULT=$1 "$folder/$program" > "$folder/log" 2>&1; then
+            echo "$program"
+            return
         fi
     done
-    echo "fault $fault: $noticed"
-    [ "$noticed" != nobody ] || missed=$((missed + 1))
-    fault=$((fault + 1))
+    echo nobody
+}
+
+by_rust() {
+    if (cd rust && FAULT=$1 $cargo test --release --offline --tests) > "$folder/log" 2>&1; then
+        echo nobody
+    else
+        sed -n 's/.*rerun pass .*--\(test\|bin\) \([a-z_]*\).*/\2/p; s/.*rerun pass .*--lib.*/lib/p' "$folder/log" | head -n 1
+    fi
+}
+
+[ "$(by_c none)" = nobody ] || { echo 'a C program complains of no fault'; exit 1; }
+[ "$(by_rust none)" = nobody ] || { echo 'a Rust test complains of no fault'; exit 1; }
+faults=0
+missed=0
+for fault in $(sed -n 's/.*fault("\([^"]*\)").*/\1/p' tests/faults.c); do
+    faults=$((faults + 1))
+    c=$(by_c "$fault") rust=$(by_rust "$fault")
+    printf '%-46s C: %-10s Rust: %s\n' "$fault" "$c" "$rust"
+    case $rust in
+    nobody) case " $c_only " in *" $fault "*) [ "$c" != nobody ] || missed=$((missed + 1)) ;; *) missed=$((missed + 1)) ;; esac ;;
+    esac
 done
 echo "$faults faults, $missed not noticed"
-[ $missed -eq 0 ]
+[ $missed -eq 0 ] && [ $faults -gt 0 ]

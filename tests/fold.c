@@ -54,7 +54,7 @@ static size_t compare_list(uint64_t *state) {
 
 int main(int argc, char **argv) {
     uint64_t lists = pairs_asked(argc, argv, 500), state = seed_asked(argc, argv), marked = 0, i;
-    for (i = 0; i < lists; i++)
+    for (i = 0; going(i, lists); i++)
         marked += compare_list(&state);
     printf("%" PRIu64 " lists, %" PRIu64 " places marked\n", lists, marked);
     return verdict();

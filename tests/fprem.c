@@ -184,7 +184,7 @@ static void compare_pairs(uint64_t pairs, uint64_t *state) {
     struct coverage seen;
     uint64_t i;
     memset(&seen, 0, sizeof seen);
-    for (i = 0; i < pairs; i++) {
+    for (i = 0; going(i, pairs); i++) {
         struct pair p = any_pair(X87, state);
         uint32_t size = (uint32_t)between(state, 32, 63), kind = (uint32_t)below(state, 2);
         if (is_pseudo_denormal(p.x) || is_pseudo_denormal(p.y)) {
@@ -224,7 +224,7 @@ static struct pattern any_operand(uint64_t *state) {
 
 static void compare_scaling(uint64_t cases, uint64_t *state) {
     uint64_t i, compared = 0, rounded = 0, refused = 0;
-    for (i = 0; i < cases; i++) {
+    for (i = 0; going(i, cases); i++) {
         struct pattern x = any_operand(state);
         int32_t power = any_power(x, state);
         struct flags c;
@@ -254,7 +254,7 @@ static void compare_scaling(uint64_t cases, uint64_t *state) {
 /* Only nonzero finite values: FXTRACT answers zeros and infinities otherwise than document 01. */
 static void compare_splitting(uint64_t cases, uint64_t *state) {
     uint64_t i;
-    for (i = 0; i < cases; i++) {
+    for (i = 0; going(i, cases); i++) {
         struct pattern x = any_finite(X87, state);
         int32_t exponent;
         struct pattern theirs = processor_split(x, &exponent);

@@ -75,7 +75,7 @@ int main(int argc, char **argv) {
         stride = 1;
     for (x = 0; x < PATTERNS; x++)
         counts[x] = count_of(x);
-    for (x = 0; x < PATTERNS; x++)
+    for (x = 0; going(x, PATTERNS); x++)
         for (y = x % stride; y < PATTERNS; y += stride, pairs++) {
             compare(x, y, 0);
             compare(x, y, 1);

@@ -145,7 +145,7 @@ static void compare_splitting(int f, struct pattern x, struct theirs c) {
 
 static void compare_format(int f, uint64_t cases, uint64_t seed) {
     uint64_t i, state = seed + (uint64_t)f, refused = 0, said[3] = {0, 0, 0};
-    for (i = 0; i < cases; i++) {
+    for (i = 0; going(i, cases); i++) {
         struct pattern x = any_pair(f, &state).x;
         int power = any_power(f, x, &state);
         struct theirs c;

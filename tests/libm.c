@@ -110,7 +110,7 @@ static void compare_format(int f, uint64_t pairs, uint64_t seed) {
     struct coverage seen;
     uint64_t i, state = seed + (uint64_t)f, refused = 0, disputed = 0;
     memset(&seen, 0, sizeof seen);
-    for (i = 0; i < pairs; i++) {
+    for (i = 0; going(i, pairs); i++) {
         struct pair p = any_pair(f, &state);
         struct theirs c = ask(f, p);
         cover(&seen, f, p);

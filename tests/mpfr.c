@@ -70,7 +70,7 @@ static void compare_format(int f, uint64_t pairs, uint64_t seed) {
     mpfr_t x, y, r;
     memset(&seen, 0, sizeof seen);
     mpfr_inits2(64, x, y, r, (mpfr_ptr)0);
-    for (i = 0; i < pairs; i++) {
+    for (i = 0; going(i, pairs); i++) {
         struct pair p = any_pair(f, &state);
         if (!leading_place(f, p.x, &place) || !leading_place(f, p.y, &place))
             continue;

@@ -12,7 +12,7 @@ use lib.Ieee.{size}
 use lib.Ieee.Fits.{kept-lt}
 use Rattle.definitions.specs.Format.{leading, topField, signWeight, reach, houseNan, infinityBody, magnitude}
 use Rattle.digits.proofs.Size.{size-zero}
-use Rattle.formats.specs.Operand.{formatOf, Sound}
+use Rattle.formats.specs.Shape.{formatOf, Sound}
 use Rattle.formats.specs.declared.interchange.Shape.{Shape}
 
 -- the smallest place of a regular format is as far below one as its bias and its precision say

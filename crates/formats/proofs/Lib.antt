@@ -1,5 +1,3 @@
-pub mod Normal
-pub mod Lead
 pub mod Bounds
 pub mod Words
 pub mod Shapes

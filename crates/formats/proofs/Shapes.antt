@@ -2,7 +2,7 @@
 use mathlib.Core.Path.{refl}
 use lib.Dec.{lit≤}
 use Rattle.definitions.specs.Format.{binary16, binary32, binary64}
-use Rattle.formats.specs.Operand.{Sound, shapeOf}
+use Rattle.formats.specs.Shape.{Sound, shapeOf}
 
 pub sound16 : Sound (shapeOf binary16)
 sound16 = record { regular = record { digits = lit≤ tt; range = lit≤ tt; place = refl }; narrow = lit≤ tt; short = lit≤ tt }

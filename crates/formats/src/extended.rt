@@ -1,15 +1,15 @@
 // x87's 80-bit format: a 64-bit significand whose leading digit stands in it, and a sign and exponent word.
-use crate::operand::Operand;
-use crate::operand::Unpacked;
-use crate::operand::exponent_at;
-use crate::operand::normalise;
-use crate::operand::trim;
 use definitions::Extended;
+use operands::Operand;
+use operands::Unpacked;
+use operands::exponent_at;
+use operands::normalise;
+use operands::trim;
 ghost use mathlib.Core.Path.{_≡_};
 ghost use Prim.Native.Nat.{_<_, _+_, _*_, _^_};
 ghost use Rattle.definitions.specs.Format.{x87, classOf, extendedClass, patternOf, withSign, magnitude, reach};
 ghost use Rattle.definitions.specs.Answers.{joined};
-ghost use Rattle.formats.specs.Operand.{operandOf, classIn, countIn, Packable, PackableOperand};
+ghost use Rattle.operands.specs.Operand.{operandOf, classIn, countIn, Packable, PackableOperand};
 
 // A value of the format.
 pub struct X87 {

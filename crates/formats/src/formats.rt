@@ -2,10 +2,11 @@
 use crate::interchange::Shape;
 use crate::interchange::pack;
 use crate::interchange::unpack;
-use crate::operand::Operand;
+use operands::Operand;
 ghost use mathlib.Core.Path.{_≡_};
 ghost use Rattle.definitions.specs.Format.{binary16, binary32, binary64, classOf, patternOf, reach};
-ghost use Rattle.formats.specs.Operand.{operandOf, classIn, PackableOperand, shapeOf};
+ghost use Rattle.operands.specs.Operand.{operandOf, classIn, PackableOperand};
+ghost use Rattle.formats.specs.Shape.{shapeOf};
 
 // A value of binary16.
 pub struct Binary16 {

@@ -1,14 +1,15 @@
 // The interchange formats: binary16, binary32 and binary64 are one function each way, over the format's shape.
-use crate::operand::Operand;
-use crate::operand::Unpacked;
-use crate::operand::exponent_at;
-use crate::operand::normalise;
-use crate::operand::power_of_two;
-use crate::operand::trim;
+use operands::Operand;
+use operands::Unpacked;
+use operands::exponent_at;
+use operands::normalise;
+use operands::power_of_two;
+use operands::trim;
 ghost use mathlib.Core.Path.{_≡_};
 ghost use Prim.Native.Nat.{_<_};
 ghost use Rattle.definitions.specs.Format.{classOf, patternOf, patterns, leading, topField, signWeight, withSign, houseNan, infinityBody, magnitude, reach};
-ghost use Rattle.formats.specs.Operand.{operandOf, classIn, countIn, Packable, PackableOperand, formatOf, Sound};
+ghost use Rattle.operands.specs.Operand.{operandOf, classIn, countIn, Packable, PackableOperand};
+ghost use Rattle.formats.specs.Shape.{formatOf, Sound};
 
 // What the code of a format goes by: its precision, its bias, and the exponent of its smallest place.
 pub struct Shape {

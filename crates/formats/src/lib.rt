@@ -3,4 +3,3 @@
 pub mod extended;
 pub mod formats;
 pub mod interchange;
-pub mod operand;

@@ -11,3 +11,4 @@ pub mod Agrees
 pub mod Cut
 pub mod Scaling
 pub mod Splitting
+pub mod Small

@@ -1,4 +1,3 @@
-pub mod HexDigits
 pub mod OneDigit
 pub mod Parts
 pub mod WellFormed

@@ -11,8 +11,8 @@ use Rattle.definitions.specs.declared.Kind.the-variants.{Truncated}
 use Rattle.definitions.specs.Format.{binary64}
 use Rattle.definitions.specs.Remainder.{remainder}
 use Rattle.definitions.specs.Line.{allHex, hexValue, wellFormed, answerLine, badLine, lineFor}
-use Rattle.lines.specs.Field.{fieldOf}
-use Rattle.lines.specs.declared.hex.Field.the-variants.{Number, Bad}
+use Rattle.hex.specs.Field.{fieldOf}
+use Rattle.hex.specs.declared.Field.the-variants.{Number, Bad}
 
 and-false : (a : Bool) → a && false ≡ false
 and-false true = refl

@@ -1,3 +1,2 @@
-pub mod Field
 pub mod Output
 pub mod Stream

@@ -1,5 +1,4 @@
 // One line of input answered by one line of output: document 01, "The line program".
-mod hex;
 mod output;
 pub mod stream;
 

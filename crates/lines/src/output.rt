@@ -1,7 +1,7 @@
 // The lines that are written: an answer, and `bad line`.
-use crate::hex::upper_hex;
 use definitions::RemainderAnswer;
 use formats::formats::Binary64;
+use hex::upper_hex;
 use remainder::refusal::refusal_number;
 ghost use mathlib.Core.Path.{_≡_};
 ghost use mathlib.Core.List.{[], _∷_, _++_};

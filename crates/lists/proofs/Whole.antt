@@ -13,8 +13,8 @@ use Rattle.definitions.specs.Format.{classOf, binary64}
 use Rattle.definitions.specs.Numbers.{numberOf, checks, first}
 use Rattle.definitions.specs.Fold.{Folded, foldList}
 use Rattle.definitions.specs.declared.Kind.{Kind}
-use Rattle.formats.specs.Operand.{operandOf, unpackedOf}
-use Rattle.formats.specs.declared.operand.Operand.the-variants.{Zero, Finite}
+use Rattle.operands.specs.Operand.{operandOf, unpackedOf}
+use Rattle.operands.specs.declared.Operand.the-variants.{Zero, Finite}
 use Rattle.lists.specs.Places.{divisorNumber, numberBy, Filled}
 
 -- an operand tells as much of the divisor as its class

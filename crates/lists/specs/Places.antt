@@ -7,8 +7,8 @@ use Rattle.definitions.specs.Class.{Class}
 use Rattle.definitions.specs.Numbers.{isNan, isZero}
 use Rattle.definitions.specs.Fold.{resultAt, byteAt, badPlaces}
 use Rattle.definitions.specs.declared.Kind.{Kind}
-use Rattle.formats.specs.declared.operand.Operand.{Operand}
-use Rattle.formats.specs.declared.operand.Operand.the-variants.{Unsupported, Nan, Infinite, Zero, Finite}
+use Rattle.operands.specs.declared.Operand.{Operand}
+use Rattle.operands.specs.declared.Operand.the-variants.{Unsupported, Nan, Infinite, Zero, Finite}
 use Rattle.lists.specs.declared.Place.{Place}
 
 -- what a divisor says of the whole list, by its class and by its operand

@@ -2,7 +2,7 @@
 use definitions::Kind;
 use definitions::RemainderAnswer;
 use formats::formats::Binary64;
-use formats::operand::Operand;
+use operands::Operand;
 use remainder::patterns::remainder64;
 ghost use mathlib.Core.Path.{_≡_};
 ghost use lib.ListN.{length};

@@ -11,11 +11,11 @@ use Rattle.digits.specs.Digits.{Digits}
 use Rattle.digits.proofs.Common.{mod-times}
 use Rattle.digits.proofs.Size.{size-pos}
 use Rattle.definitions.specs.Steps.{cutAt}
-use Rattle.formats.specs.Operand.{normalOf}
-use Rattle.formats.proofs.Lead.{lead, lead-top, lead-word, lead-exact}
-use Rattle.formats.proofs.Normal.{normal-operand}
-use Rattle.remainder.specs.Pair.{leftOf}
-use Rattle.remainder.proofs.Link.{link-div, link-mod}
+use Rattle.operands.specs.Operand.{normalOf}
+use Rattle.operands.proofs.Lead.{lead, lead-top, lead-word, lead-exact}
+use Rattle.operands.proofs.Normal.{normal-operand}
+use Rattle.pairs.specs.Pair.{leftOf}
+use Rattle.pairs.proofs.Link.{link-div, link-mod}
 
 -- the dividend n and the divisor m, of which k places of the quotient are taken and j are left
 module _ (s : ℤ) (neg : Bool) (n m k j : ℕ) (some : 0 < n) (dn : Digits 64 n) (more : 0 < m) (dm : Digits 64 m) (gap : size n ≡ size m + (k + j)) where

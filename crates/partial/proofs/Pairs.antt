@@ -14,13 +14,13 @@ use Rattle.definitions.specs.Steps.{cutAt, stepBy}
 use Rattle.definitions.specs.Reports.{sized}
 use Rattle.definitions.specs.declared.Kind.{Kind}
 use Rattle.chains.proofs.Step.{sized-bounds}
-use Rattle.formats.specs.declared.operand.Operand.the-variants.{Zero}
-use Rattle.formats.specs.Operand.{normalOf, unpackedOf, operandOf}
-use Rattle.formats.specs.declared.operand.Unpacked.{Unpacked}
+use Rattle.operands.specs.declared.Operand.the-variants.{Zero}
+use Rattle.operands.specs.Operand.{normalOf, unpackedOf, operandOf}
+use Rattle.operands.specs.declared.Unpacked.{Unpacked}
 use Rattle.laws.proofs.Division.{finish-far}
 use Rattle.laws.proofs.Gap.{gap-near, gap-far}
-use Rattle.remainder.specs.Pair.{leftOf}
-use Rattle.remainder.specs.declared.pair.Left.{Left}
+use Rattle.pairs.specs.Pair.{leftOf}
+use Rattle.pairs.specs.declared.Left.{Left}
 use Rattle.partial.specs.Stands.{valueIn, Stands, steppedOf, finishedOf}
 use Rattle.partial.proofs.Standing.{gap-is}
 use Rattle.partial.proofs.Cut.{cut-is}

@@ -4,13 +4,13 @@ use lib.IntN.{_-ℤ_}
 use Rattle.definitions.specs.Class.{Value, finite, gap}
 use Rattle.definitions.specs.Format.{Held, x87}
 use Rattle.definitions.specs.Division.{dividendOf}
-use Rattle.formats.specs.declared.operand.Unpacked.{Unpacked}
-use Rattle.formats.specs.declared.operand.Operand.{Operand}
-use Rattle.formats.specs.declared.operand.Operand.the-variants.{Finite}
-use Rattle.formats.specs.Operand.{operandOf, unpackedOf, classIn}
-use Rattle.formats.proofs.Lead.{by-count, class-back, some-operand}
+use Rattle.operands.specs.declared.Unpacked.{Unpacked}
+use Rattle.operands.specs.declared.Operand.{Operand}
+use Rattle.operands.specs.declared.Operand.the-variants.{Finite}
+use Rattle.operands.specs.Operand.{operandOf, unpackedOf, classIn}
+use Rattle.operands.proofs.Lead.{by-count, class-back, some-operand}
 use Rattle.laws.proofs.Gap.{gap-exponents}
-use Rattle.remainder.specs.Pair.{Ready, Unpacks}
+use Rattle.pairs.specs.Pair.{Ready, Unpacks}
 use Rattle.remainder.proofs.Told.{within-x87, held-fits, ready}
 use Rattle.partial.specs.Stands.{valueIn, valueOperand, Stands, StandsOperand}
 

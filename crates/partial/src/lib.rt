@@ -1,5 +1,98 @@
-// The partial step and the budgeted run of x87's 80-bit format.
-pub mod checks;
-pub mod run;
-pub mod step;
-pub mod value;
+// A step of a finite value by a finite divisor that is not zero. Only this crate calls these, with operands as `formats` unpacks them.
+use definitions::Kind;
+use division::divide;
+use operands::Operand;
+use operands::Unpacked;
+use operands::power_of_two;
+use pairs::Left;
+use pairs::finish_pair;
+use pairs::gap;
+use pairs::settle;
+ghost use mathlib.Core.Path.{_≡_};
+ghost use mathlib.Core.Bool.{true, false};
+ghost use Prim.Native.Nat.{_*_, _%_, _-_, _^_};
+ghost use lib.IntN.{pos, natAbs, _-ℤ_};
+ghost use lib.Signed.{ltZ};
+ghost use Rattle.definitions.specs.Format.{x87};
+ghost use Rattle.definitions.specs.Steps.{cutAt, stepBy, usedSize};
+ghost use Rattle.definitions.specs.Reports.{sized};
+ghost use Rattle.pairs.specs.Pair.{leftOf};
+ghost use Rattle.partial.specs.Stands.{Stands, StandsOperand, valueIn, valueOperand, steppedOf, finishedOf};
+
+// What a step comes to: whether it finished, and what is left.
+pub struct Stepped {
+    pub done: bool,
+    pub left: Left,
+}
+
+// The low 32 bits of a quotient part that ends in so many zeros.
+fn raised(quotient: u32, places: u32) -> u32
+    ensures { λ r. ⌜ r ≡ quotient * 2 ^ places % 2 ^ 32 ⌝ }
+{
+    if 32 <= places {
+        return 0;
+    }
+    ((quotient as u64) * power_of_two(places) % 4294967296) as u32
+}
+
+// A partial step: `size` places of the quotient are taken, and both kinds cut.
+fn cut_pair(x: Unpacked, y: Unpacked, size: u32, d: i32) -> Left
+    requires { ⌜ Stands x × Stands y × (sized size ≡ true) × (d ≡ x .exponent -ℤ y .exponent) × (ltZ d (pos 64) ≡ false) ⌝ }
+    ensures { λ r. ⌜ r ≡ leftOf (x87 .smallest) (cutAt (natAbs d - usedSize d size) (valueIn y .count) (valueIn x)) ⌝ }
+{
+    let divided = divide(x.significand, y.significand, size);
+    let left = settle(
+        Kind::Truncated,
+        x.negative,
+        divided,
+        y.significand,
+        x.exponent - (size as i32),
+    );
+    let value = left.value;
+    Left {
+        value,
+        quotient: raised(left.quotient, (d as u32) - size),
+    }
+}
+
+fn step_pair(kind: Kind, x: Unpacked, y: Unpacked, size: u32) -> Stepped
+    requires { ⌜ Stands x × Stands y × (sized size ≡ true) ⌝ }
+    ensures { λ r. ⌜ r ≡ steppedOf (stepBy kind size (valueIn y .count) (valueIn x)) ⌝ }
+{
+    let d = gap(x, y);
+    if d < 64 {
+        Stepped {
+            done: true,
+            left: finish_pair(kind, x, y),
+        }
+    } else {
+        Stepped {
+            done: false,
+            left: cut_pair(x, y, size, d),
+        }
+    }
+}
+
+// A step that takes nothing off: the value is what it was.
+pub fn finished(value: Operand) -> Stepped
+    ensures { λ r. ⌜ r ≡ finishedOf value ⌝ }
+{
+    Stepped {
+        done: true,
+        left: Left { value, quotient: 0 },
+    }
+}
+
+// A zero finishes as it is. What is no finite value does not come here.
+pub fn step_value(kind: Kind, x: Operand, y: Unpacked, size: u32) -> Stepped
+    requires { ⌜ StandsOperand x × Stands y × (sized size ≡ true) ⌝ }
+    ensures { λ r. ⌜ r ≡ steppedOf (stepBy kind size (valueIn y .count) (valueOperand x)) ⌝ }
+{
+    match x {
+        Operand::Finite(a) => step_pair(kind, a, y, size),
+        Operand::Unsupported => finished(x),
+        Operand::Nan => finished(x),
+        Operand::Infinite(_) => finished(x),
+        Operand::Zero(_) => finished(x),
+    }
+}

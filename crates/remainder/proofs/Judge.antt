@@ -15,10 +15,10 @@ use Rattle.definitions.specs.Answers.{refusalNumber}
 use Rattle.definitions.specs.declared.Kind.{Kind}
 use Rattle.definitions.specs.declared.Refusal.{Refusal}
 use Rattle.definitions.specs.declared.Refusal.the-variants as why
-use Rattle.formats.specs.declared.operand.Operand.{Operand}
-use Rattle.formats.specs.declared.operand.Operand.the-variants.{Unsupported, Nan, Infinite, Zero, Finite}
-use Rattle.formats.specs.Operand.{operandOf, unpackedOf}
-use Rattle.formats.proofs.Lead.{zero-operand, some-operand, by-count}
+use Rattle.operands.specs.declared.Operand.{Operand}
+use Rattle.operands.specs.declared.Operand.the-variants.{Unsupported, Nan, Infinite, Zero, Finite}
+use Rattle.operands.specs.Operand.{operandOf, unpackedOf}
+use Rattle.operands.proofs.Lead.{zero-operand, some-operand, by-count}
 use Rattle.laws.proofs.Division.{finish-far}
 use Rattle.remainder.specs.Examined.{examinedOf, Judged}
 

@@ -17,18 +17,19 @@ use Rattle.definitions.specs.Remainder.{remainderOf, remainder, refusedValue, s
 use Rattle.definitions.specs.Answers.{refusalNumber}
 use Rattle.definitions.specs.declared.Kind.{Kind}
 use Rattle.definitions.specs.declared.Refusal.{Refusal}
-use Rattle.formats.specs.declared.operand.Operand.{Operand}
-use Rattle.formats.specs.declared.operand.Unpacked.{Unpacked}
-use Rattle.formats.specs.Operand.{operandOf, unpackedOf, classIn, PackableOperand, formatOf, Sound}
+use Rattle.operands.specs.declared.Operand.{Operand}
+use Rattle.operands.specs.declared.Unpacked.{Unpacked}
+use Rattle.operands.specs.Operand.{operandOf, unpackedOf, classIn, PackableOperand}
+use Rattle.formats.specs.Shape.{formatOf, Sound}
 use Rattle.formats.specs.declared.interchange.Shape.{Shape}
 use Rattle.formats.proofs.Bounds.{smallest-small}
-use Rattle.formats.proofs.Lead.{packable-operand, class-back, lead-top, lead-word}
+use Rattle.operands.proofs.Lead.{packable-operand, class-back, lead-top, lead-word}
 use Rattle.laws.proofs.Division.{finish-held}
 use Rattle.laws.proofs.Regular.{regular80}
 use Rattle.laws.proofs.RoundTrip.{read-held}
-use Rattle.remainder.specs.Pair.{Ready, Unpacks, leftOf}
+use Rattle.pairs.specs.Pair.{Ready, Unpacks, leftOf}
 use Rattle.remainder.specs.Examined.{examinedOf, ReturnsDividend, Divides, Judged}
-use Rattle.remainder.specs.declared.pair.Left.{Left}
+use Rattle.pairs.specs.declared.Left.{Left}
 use Rattle.remainder.specs.declared.examine.Examined.{Examined}
 use Rattle.remainder.proofs.Judge.{Fits64, judged, refusal-refuses}
 

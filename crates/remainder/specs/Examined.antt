@@ -9,13 +9,13 @@ use Rattle.definitions.specs.Steps.{step}
 use Rattle.definitions.specs.Answers.{refusalNumber}
 use Rattle.definitions.specs.declared.Kind.{Kind}
 use Rattle.definitions.specs.declared.Refusal.the-variants as why
-use Rattle.formats.specs.declared.operand.Operand.{Operand}
-use Rattle.formats.specs.declared.operand.Unpacked.{Unpacked}
-use Rattle.formats.specs.declared.operand.Operand.the-variants.{Unsupported, Nan, Infinite, Zero, Finite}
-use Rattle.formats.specs.Operand.{operandOf}
+use Rattle.operands.specs.declared.Operand.{Operand}
+use Rattle.operands.specs.declared.Unpacked.{Unpacked}
+use Rattle.operands.specs.declared.Operand.the-variants.{Unsupported, Nan, Infinite, Zero, Finite}
+use Rattle.operands.specs.Operand.{operandOf}
 use Rattle.remainder.specs.declared.examine.Examined.{Examined}
 use Rattle.remainder.specs.declared.examine.Examined.the-variants.{Refused, Returned, Pair}
-use Rattle.remainder.specs.Pair.{Unpacks}
+use Rattle.pairs.specs.Pair.{Unpacks}
 
 abbrev pub examinedOf : Operand → Operand → Examined
 examinedOf Unsupported y = Refused why.Unsupported

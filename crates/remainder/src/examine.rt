@@ -2,8 +2,8 @@
 use definitions::Extended;
 use definitions::Refusal;
 use formats::extended::X87;
-use formats::operand::Operand;
-use formats::operand::Unpacked;
+use operands::Operand;
+use operands::Unpacked;
 ghost use mathlib.Core.Path.{_≡_};
 ghost use Rattle.definitions.specs.Format.{x87, classOf};
 ghost use Rattle.definitions.specs.Answers.{joined};

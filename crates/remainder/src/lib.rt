@@ -1,5 +1,4 @@
 // The remainder in one call: truncated, as C's fmod, and nearest, as IEEE 754's remainder, for all four formats.
 pub mod examine;
-pub mod pair;
 pub mod patterns;
 pub mod refusal;

@@ -2,7 +2,6 @@
 use crate::examine::Examined;
 use crate::examine::examine;
 use crate::examine::examine80;
-use crate::pair::finish_pair;
 use definitions::Extended;
 use definitions::Kind;
 use definitions::RemainderAnswer;
@@ -14,12 +13,13 @@ use formats::formats::Binary64;
 use formats::interchange::Shape;
 use formats::interchange::pack;
 use formats::interchange::unpack;
+use pairs::finish_pair;
 ghost use mathlib.Core.Path.{_≡_};
 ghost use Prim.Native.Nat.{_<_};
 ghost use Rattle.definitions.specs.Format.{binary16, binary32, binary64, x87, patterns};
 ghost use Rattle.definitions.specs.Remainder.{remainder};
 ghost use Rattle.definitions.specs.Answers.{remainderTold, remainderTold80, joined};
-ghost use Rattle.formats.specs.Operand.{formatOf, Sound};
+ghost use Rattle.formats.specs.Shape.{formatOf, Sound};
 
 // How many values of the quotient an answer tells apart.
 pub const QUOTIENT_MODULUS: u32 = 8;

@@ -3,11 +3,11 @@ use mathlib.Core.Path.{_≡_, refl, sym, ap, _∙_, subst}
 use Prim.Native.Nat.{ℕ, _<_}
 use lib.IntN.{ℤ}
 use Rattle.definitions.specs.Class.{Value, Class, unsupported, nan, infinite, finite}
-use Rattle.formats.specs.Operand.{operandOf, unpackedOf}
-use Rattle.formats.specs.declared.operand.Unpacked.{Unpacked}
-use Rattle.formats.specs.declared.operand.Operand.{Operand}
-use Rattle.formats.specs.declared.operand.Operand.the-variants.{Unsupported, Nan, Infinite, Zero, Finite}
-use Rattle.formats.proofs.Lead.{by-count}
+use Rattle.operands.specs.Operand.{operandOf, unpackedOf}
+use Rattle.operands.specs.declared.Unpacked.{Unpacked}
+use Rattle.operands.specs.declared.Operand.{Operand}
+use Rattle.operands.specs.declared.Operand.the-variants.{Unsupported, Nan, Infinite, Zero, Finite}
+use Rattle.operands.proofs.Lead.{by-count}
 
 -- a class of a value that is not zero, unpacked
 pub record Whole (s : ℤ) (c : Class) (u : Unpacked) : Type 0 where

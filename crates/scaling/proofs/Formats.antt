@@ -3,7 +3,7 @@ use mathlib.Core.Path.{refl}
 use native.Mathlib.Omega.{arith}
 use lib.Dec.{lit≤}
 use Rattle.definitions.specs.Format.{x87}
-use Rattle.formats.specs.Operand.{formatOf, Sound}
+use Rattle.formats.specs.Shape.{formatOf, Sound}
 use Rattle.formats.specs.declared.interchange.Shape.{Shape}
 use Rattle.laws.proofs.Regular.{regular80}
 use Rattle.scaling.specs.Operands.{Scalable}

@@ -1,4 +1,3 @@
-pub mod TiesToEven
 pub mod Powers
 pub mod Scaled
 pub mod Classes

@@ -17,11 +17,11 @@ use Rattle.definitions.specs.Remainder.{refusedValue}
 use Rattle.definitions.specs.Answers.{refusalNumber}
 use Rattle.definitions.specs.Scale.{significandOf, splitReport}
 use Rattle.laws.proofs.Splitting.{onePlace, split-finite, significand-sign, significand-count, significand-pos, significand-size, significand-exponent, significand-held}
-use Rattle.formats.specs.Operand.{operandOf, unpackedOf, classIn, PackableOperand}
-use Rattle.formats.specs.declared.operand.Unpacked.{Unpacked}
-use Rattle.formats.specs.declared.operand.Operand.{Operand}
-use Rattle.formats.specs.declared.operand.Operand.the-variants.{Unsupported, Nan, Infinite, Zero, Finite}
-use Rattle.formats.proofs.Lead.{lead, lead-exact, zero-operand, some-operand, packable-operand, class-back}
+use Rattle.operands.specs.Operand.{operandOf, unpackedOf, classIn, PackableOperand}
+use Rattle.operands.specs.declared.Unpacked.{Unpacked}
+use Rattle.operands.specs.declared.Operand.{Operand}
+use Rattle.operands.specs.declared.Operand.the-variants.{Unsupported, Nan, Infinite, Zero, Finite}
+use Rattle.operands.proofs.Lead.{lead, lead-exact, zero-operand, some-operand, packable-operand, class-back}
 use Rattle.scaling.specs.Power.{far}
 use Rattle.scaling.specs.Operands.{Scalable, Holds, Splittable, splitOf}
 use Rattle.scaling.specs.declared.operand.SplitOperand.{SplitOperand}

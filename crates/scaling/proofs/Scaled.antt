@@ -19,10 +19,10 @@ use Rattle.definitions.specs.declared.Rounding.the-variants.{Exact, Up}
 use Rattle.laws.proofs.Range.{smallest-is}
 use Rattle.laws.proofs.Cut.{cut-multiple, cut-same, cut-le}
 use Rattle.laws.proofs.Scaling.{boundedCut, scale-cut, bounded-finite, bounded-infinite}
-use Rattle.formats.specs.Operand.{operandOf, normalOf, placeIn}
-use Rattle.formats.proofs.Lead.{lead, lead-word, lead-exact}
-use Rattle.formats.proofs.Normal.{normal-operand}
-use Rattle.formats.specs.declared.operand.Operand.the-variants.{Infinite}
+use Rattle.operands.specs.Operand.{operandOf, normalOf, placeIn}
+use Rattle.operands.proofs.Lead.{lead, lead-word, lead-exact}
+use Rattle.operands.proofs.Normal.{normal-operand}
+use Rattle.operands.specs.declared.Operand.the-variants.{Infinite}
 use Rattle.scaling.specs.declared.operand.ScaledOperand.the-variants.{Scaled}
 use Rattle.scaling.specs.Power.{far, raisedOf}
 use Rattle.scaling.specs.Operands.{Scalable, scaledOf}

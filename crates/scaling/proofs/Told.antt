@@ -18,9 +18,9 @@ use Rattle.definitions.specs.declared.Rounding.the-variants.{Exact}
 use Rattle.laws.proofs.Range.{smallest-is}
 use Rattle.laws.proofs.RoundTrip.{read-held}
 use Rattle.laws.proofs.Scaling.{HeldClass, scale-class-held}
-use Rattle.formats.specs.Operand.{operandOf, classIn, PackableOperand}
-use Rattle.formats.specs.declared.operand.Operand.{Operand}
-use Rattle.formats.proofs.Lead.{packable-operand, class-back}
+use Rattle.operands.specs.Operand.{operandOf, classIn, PackableOperand}
+use Rattle.operands.specs.declared.Operand.{Operand}
+use Rattle.operands.proofs.Lead.{packable-operand, class-back}
 use Rattle.scaling.specs.Power.{far}
 use Rattle.scaling.specs.Operands.{Spans, Scalable, Holds, answerOf}
 use Rattle.scaling.specs.declared.operand.ScaledOperand.{ScaledOperand}

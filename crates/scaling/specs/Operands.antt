@@ -8,9 +8,9 @@ use Rattle.definitions.specs.Class.{Class, unsupported, nan, infinite, finite}
 use Rattle.definitions.specs.Format.{Format, Regular, Held}
 use Rattle.definitions.specs.declared.Refusal.the-variants as why
 use Rattle.definitions.specs.Scale as definition
-use Rattle.formats.specs.Operand.{operandOf, placeIn}
-use Rattle.formats.specs.declared.operand.Operand.{Operand}
-use Rattle.formats.specs.declared.operand.Operand.the-variants.{Unsupported, Nan, Infinite, Zero, Finite}
+use Rattle.operands.specs.Operand.{operandOf, placeIn}
+use Rattle.operands.specs.declared.Operand.{Operand}
+use Rattle.operands.specs.declared.Operand.the-variants.{Unsupported, Nan, Infinite, Zero, Finite}
 use Rattle.scaling.specs.Power.{far}
 use Rattle.scaling.specs.declared.operand.ScaledOperand.{ScaledOperand}
 use Rattle.scaling.specs.declared.operand.ScaledOperand.the-variants as scaled

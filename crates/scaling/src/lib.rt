@@ -1,5 +1,4 @@
 // Scaling by a power of two, and splitting into a significand and an exponent, for all four formats.
-pub mod cut;
 pub mod operand;
 pub mod power;
 pub mod scale;

@@ -1,21 +1,21 @@
 // Scaling and splitting of operands, the same for every format. Only crates of this repository call these, with operands as `formats`
 // unpacks them.
-use crate::cut::cut_places;
 use crate::power::FAR;
 use crate::power::raised;
 use definitions::Refusal;
 use definitions::Rounding;
-use formats::operand::Operand;
-use formats::operand::Unpacked;
-use formats::operand::exponent_at;
-use formats::operand::normalise;
-use formats::operand::place_of;
+use operands::Operand;
+use operands::Unpacked;
+use operands::exponent_at;
+use operands::normalise;
+use operands::place_of;
+use rounding::cut_places;
 ghost use mathlib.Core.Path.{_≡_};
 ghost use Prim.Native.Nat.{_<_};
 ghost use Rattle.definitions.specs.Class.{Value, Class};
 ghost use Rattle.definitions.specs.Format.{Format, Held};
 ghost use Rattle.definitions.specs.Scale.{scaleValue, scaleClass};
-ghost use Rattle.formats.specs.Operand.{operandOf, unpackedOf, Packable, PackableOperand};
+ghost use Rattle.operands.specs.Operand.{operandOf, unpackedOf, Packable, PackableOperand};
 ghost use Rattle.scaling.specs.Power.{far};
 ghost use Rattle.scaling.specs.Operands.{Spans, Scalable, Holds, scaledOf, answerOf, Splittable, splitOf};
 

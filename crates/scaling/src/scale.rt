@@ -16,7 +16,7 @@ ghost use Prim.Native.Nat.{_<_};
 ghost use Rattle.definitions.specs.Format.{binary16, binary32, binary64, x87, patterns};
 ghost use Rattle.definitions.specs.Scale.{scaleReport};
 ghost use Rattle.definitions.specs.Answers.{scaleTold, scaleTold80, joined};
-ghost use Rattle.formats.specs.Operand.{formatOf, Sound};
+ghost use Rattle.formats.specs.Shape.{formatOf, Sound};
 
 // Only the three functions below call it, each with its own shape.
 fn scale_in(shape: Shape, x: u64, power: i32) -> ScaleAnswer

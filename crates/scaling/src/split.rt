@@ -16,7 +16,7 @@ ghost use Prim.Native.Nat.{_<_};
 ghost use Rattle.definitions.specs.Format.{binary16, binary32, binary64, x87, patterns};
 ghost use Rattle.definitions.specs.Scale.{splitReport};
 ghost use Rattle.definitions.specs.Answers.{splitTold, splitTold80, joined};
-ghost use Rattle.formats.specs.Operand.{formatOf, Sound};
+ghost use Rattle.formats.specs.Shape.{formatOf, Sound};
 
 // Only the three functions below call it, each with its own shape.
 fn split_in(shape: Shape, x: u64) -> SplitAnswer

@@ -7,7 +7,7 @@ use lib.ListN.{length, drop}
 use Rattle.definitions.specs.declared.Kind.the-variants.{Truncated}
 use Rattle.definitions.specs.Format.{binary64}
 use Rattle.definitions.specs.Line.{answerLine}
-use Rattle.lines.specs.Field.{fieldOf}
+use Rattle.hex.specs.Field.{fieldOf}
 use Rattle.lines.specs.Output.{outputOf}
 use Rattle.lines.proofs.OneDigit.{quotient-digit}
 use Rattle.lines.proofs.Parts.{rest-whole}

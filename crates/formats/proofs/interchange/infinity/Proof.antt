@@ -4,7 +4,7 @@ use Prim.Native.Nat.{_*_}
 use native.Mathlib.Omega.{arith}
 use borrow.Author.Needs.{needs}
 use Rattle.definitions.specs.Format.{infinityBody}
-use Rattle.formats.specs.Operand.{formatOf}
+use Rattle.formats.specs.Shape.{formatOf}
 use Rattle.formats.proofs.Bounds.{sign-le, infinity-small}
 use Rattle.formats.proofs.interchange.infinity.Statement.{statement}
 use Rattle.formats.proofs.interchange.infinity.Tie as tie

@@ -9,8 +9,9 @@ use mir.Syntax.{w32}
 use mir.Val.{toZ, ofZ}
 use Rattle.definitions.specs.Format.{magnitude, reach}
 use Rattle.digits.proofs.Signed.{small-back}
-use Rattle.formats.specs.Operand.{formatOf, countIn}
-use Rattle.formats.proofs.Normal.{count-size}
+use Rattle.operands.specs.Operand.{countIn}
+use Rattle.formats.specs.Shape.{formatOf}
+use Rattle.operands.proofs.Normal.{count-size}
 use Rattle.formats.proofs.Bounds.{sign-le, magnitude-small, smallest-small}
 use Rattle.formats.proofs.interchange.magnitude_of.Statement.{statement}
 use Rattle.formats.proofs.interchange.magnitude_of.Tie as tie

@@ -5,8 +5,9 @@ use native.Mathlib.Nat.{lt-of-le-of-lt}
 use borrow.Author.Needs.{needs}
 use lib.Ieee.{size}
 use Rattle.definitions.specs.Format.{patternOf, magnitude, withSign, reach}
-use Rattle.formats.specs.Operand.{formatOf, classIn, Packable, PackableOperand}
-use Rattle.formats.proofs.Normal.{count-size}
+use Rattle.operands.specs.Operand.{classIn, Packable, PackableOperand}
+use Rattle.formats.specs.Shape.{formatOf}
+use Rattle.operands.proofs.Normal.{count-size}
 use Rattle.formats.proofs.Bounds.{infinity-small, magnitude-small, magnitude-zero}
 use Rattle.formats.proofs.interchange.pack.Statement.{statement}
 use Rattle.formats.proofs.interchange.pack.Tie as tie

@@ -4,7 +4,7 @@ use Prim.Native.Nat.{_+_, _*_}
 use native.Mathlib.Omega.{arith}
 use borrow.Author.Needs.{needs}
 use Rattle.definitions.specs.Format.{signWeight}
-use Rattle.formats.specs.Operand.{formatOf}
+use Rattle.formats.specs.Shape.{formatOf}
 use Rattle.formats.proofs.Bounds.{sign-le}
 use Rattle.formats.proofs.interchange.sign_weight.Statement.{statement}
 use Rattle.formats.proofs.interchange.sign_weight.Tie as tie

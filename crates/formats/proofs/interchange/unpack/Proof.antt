@@ -15,8 +15,9 @@ use mir.Val.{toZ, ofZ}
 use Rattle.definitions.specs.Class.{finite}
 use Rattle.definitions.specs.Format.{Format, classOf, leading, topField, interchangeClass, fieldsClass, hidden}
 use Rattle.digits.proofs.Signed.{small-back, mag-add}
-use Rattle.formats.specs.Operand.{formatOf, operandOf, normalOf}
-use Rattle.formats.proofs.Normal.{normal-operand}
+use Rattle.operands.specs.Operand.{operandOf, normalOf}
+use Rattle.formats.specs.Shape.{formatOf}
+use Rattle.operands.proofs.Normal.{normal-operand}
 use Rattle.formats.proofs.Bounds.{leading-pos, leading-le, top-le, smallest-small}
 use Rattle.formats.proofs.interchange.unpack.Statement.{statement}
 use Rattle.formats.proofs.interchange.unpack.Tie as tie

@@ -3,7 +3,7 @@ use mathlib.Core.Path.{ap, _∙_}
 use Prim.Native.Nat.{ℕ, _%_}
 use Rattle.definitions.specs.Format.{Format, classOf}
 use Rattle.definitions.specs.Answers.{remainderTold}
-use Rattle.formats.specs.Operand.{formatOf}
+use Rattle.formats.specs.Shape.{formatOf}
 use Rattle.remainder.specs.Examined.{Judged}
 use Rattle.remainder.proofs.Told.{Within, within-shape, examined, refused, returned, returned-packs, both-ready, divided, divided-packs}
 use borrow.Author.Needs.{needs}

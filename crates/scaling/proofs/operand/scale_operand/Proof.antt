@@ -5,7 +5,7 @@ use mir.Val.{toZ, ofZ}
 use mir.ValLaws.{toZ-ofZ}
 use Rattle.digits.proofs.Tests.{not-zero}
 use Rattle.definitions.specs.Scale.{scaleClass}
-use Rattle.formats.specs.Operand.{operandOf, PackableOperand}
+use Rattle.operands.specs.Operand.{operandOf, PackableOperand}
 use Rattle.scaling.specs.Power.{far}
 use Rattle.scaling.specs.Operands.{Holds}
 use Rattle.scaling.proofs.Classes.{class-told}

@@ -11,13 +11,13 @@ use mir.ValLaws.{toZ-ofZ, toZ-pos}
 use Rattle.digits.proofs.Signed.{above-small, small-back, mag-add, add-sub}
 use Rattle.definitions.specs.Class.{Value}
 use Rattle.definitions.specs.Format.{Format, reach}
-use Rattle.formats.specs.Operand.{unpackedOf, placeIn, normalOf}
-use Rattle.formats.specs.declared.operand.Unpacked.{Unpacked}
-use Rattle.formats.specs.declared.operand.Operand.{Operand}
+use Rattle.operands.specs.Operand.{unpackedOf, placeIn, normalOf}
+use Rattle.operands.specs.declared.Unpacked.{Unpacked}
+use Rattle.operands.specs.declared.Operand.{Operand}
 use Rattle.definitions.specs.declared.Rounding.the-variants.{Exact}
 use Rattle.scaling.specs.declared.operand.ScaledOperand.the-variants.{Scaled}
-use Rattle.scaling.specs.declared.cut.Cut.{Cut}
-use Rattle.scaling.specs.Cut.{cutOf}
+use Rattle.rounding.specs.declared.Cut.{Cut}
+use Rattle.rounding.specs.Cut.{cutOf}
 use Rattle.scaling.specs.Power.{far, raisedOf}
 use Rattle.scaling.specs.Operands.{Scalable}
 use Rattle.scaling.proofs.Powers.{raised-small}

@@ -6,7 +6,7 @@ use mir.Val.{toZ, ofZ}
 use mir.ValLaws.{toZ-ofZ}
 use Rattle.digits.proofs.Signed.{small-back}
 use Rattle.definitions.specs.Answers.{scaleTold}
-use Rattle.formats.specs.Operand.{formatOf}
+use Rattle.formats.specs.Shape.{formatOf}
 use Rattle.formats.proofs.Bounds.{smallest-small}
 use Rattle.scaling.specs.Operands.{Scalable}
 use Rattle.scaling.proofs.Formats.{scalable-shape}

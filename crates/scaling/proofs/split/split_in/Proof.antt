@@ -1,7 +1,7 @@
 -- `split_in` meets its contract: the split operand of the shape's format, packed. Assumes nothing.
 use Rattle.digits.proofs.Signed.{small-back}
 use Rattle.definitions.specs.Answers.{splitTold}
-use Rattle.formats.specs.Operand.{formatOf}
+use Rattle.formats.specs.Shape.{formatOf}
 use Rattle.scaling.specs.Operands.{Scalable}
 use Rattle.scaling.proofs.Formats.{scalable-shape}
 use Rattle.scaling.proofs.Parts.{Told, class-splittable, split-told}

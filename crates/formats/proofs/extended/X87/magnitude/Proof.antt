@@ -3,9 +3,9 @@ use Prim.Native.Nat.{ℕ, _-_, _≤_}
 use native.Mathlib.Omega.{arith}
 use lib.IntN.{negsuc}
 use lib.Ieee.{size}
-use Rattle.formats.specs.Operand.{countIn, Packable}
-use Rattle.formats.specs.declared.operand.Unpacked.{Unpacked}
-use Rattle.formats.proofs.Normal.{count-size}
+use Rattle.operands.specs.Operand.{countIn, Packable}
+use Rattle.operands.specs.declared.Unpacked.{Unpacked}
+use Rattle.operands.proofs.Normal.{count-size}
 use Rattle.formats.proofs.Words.{magnitude-high, magnitude-low}
 use borrow.Author.Needs.{needs}
 use Rattle.formats.proofs.extended.X87.magnitude.Statement.{statement}

@@ -2,7 +2,7 @@
 use mathlib.Core.Path.{sym, ap, _∙_}
 use native.Mathlib.Omega.{arith}
 use lib.IntN.{negsuc}
-use Rattle.formats.specs.Operand.{operandOf}
+use Rattle.operands.specs.Operand.{operandOf}
 use Rattle.formats.proofs.Words.{class-joined}
 use borrow.Author.Needs.{needs}
 use Rattle.formats.proofs.extended.X87.of_pattern.Statement.{statement}

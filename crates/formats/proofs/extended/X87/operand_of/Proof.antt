@@ -9,8 +9,8 @@ use lib.Signed.{mag}
 use mir.Syntax.{w32}
 use mir.Val.{toZ, ofZ}
 use Rattle.digits.proofs.Signed.{small-back, mag-add}
-use Rattle.formats.specs.Operand.{operandOf, normalOf}
-use Rattle.formats.proofs.Normal.{normal-operand}
+use Rattle.operands.specs.Operand.{operandOf, normalOf}
+use Rattle.operands.proofs.Normal.{normal-operand}
 use Rattle.formats.proofs.Words.{pseudo-class, low-class, unnormal-class, infinite-class, nan-class, high-class}
 use borrow.Author.Needs.{needs}
 use Rattle.formats.proofs.extended.X87.operand_of.Statement.{statement}

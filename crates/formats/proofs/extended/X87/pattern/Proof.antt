@@ -2,7 +2,7 @@
 use mathlib.Core.Path.{sym, ap, _∙_, subst}
 use lib.IntN.{negsuc}
 use Rattle.definitions.specs.Format.{x87, patternOf, withSign, magnitude}
-use Rattle.formats.specs.Operand.{classIn, PackableOperand}
+use Rattle.operands.specs.Operand.{classIn, PackableOperand}
 use Rattle.formats.proofs.Words.{magnitude-zero}
 use borrow.Author.Needs.{needs}
 use Rattle.formats.proofs.extended.X87.pattern.Statement.{statement}

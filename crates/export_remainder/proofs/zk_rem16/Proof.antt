@@ -1,0 +1,57 @@
+-- `zk_rem16` meets its contract: what it writes is what `remainder16` tells. Assumes nothing.
+use mathlib.Core.Path.{_≡_}
+use Rattle.definitions.specs.Format.{binary16}
+use Rattle.definitions.specs.Remainder.{remainder}
+use Rattle.definitions.specs.Answers.{remainderTold}
+use Rattle.definitions.specs.Block.{kindOf}
+use Rattle.laws.proofs.Regular.{regular16}
+use Rattle.export_remainder.proofs.Written.{value-fits, finished, refused}
+use borrow.Author.Needs.{needs}
+use Rattle.export_remainder.proofs.zk_rem16.Statement.{statement}
+use Rattle.export_remainder.proofs.zk_rem16.Tie as tie
+
+-- what is told is the remainder of the kind that the number asks for
+told : (c : tie.After-remainder16) → let a = c .before .before .args in remainderTold binary16 (c .remainder16 .result) ≡ remainder binary16 (kindOf (a .kind)) (a .x) (a .y)
+told c = rw (c .before .kind-of .ensures) at (c .remainder16 .ensures)
+
+kind-of-requires : tie.Need-kind-of-requires
+kind-of-requires c κs = search needs
+
+remainder16-requires : tie.Need-remainder16-requires
+remainder16-requires c κs = search needs
+
+enum-known-v : tie.Need-enum-known-v
+enum-known-v c = search needs
+
+cast-value : tie.Need-cast-value
+cast-value c =
+    let e = c .before .before .before in
+    record { fits = value-fits binary16 regular16 _ _ _ _ _ _ (e .remainder16 .ensures) (c .before .v .given .1) }
+
+enum-known-why : tie.Need-enum-known-why
+enum-known-why c = search needs
+
+refusal-number-requires : tie.Need-refusal-number-requires
+refusal-number-requires c κs = search needs
+
+returns : tie.Need-returns
+returns c = finished binary16 _ _ (told (c .before .before .before)) _ _ (c .before .v .given .1)
+
+returns-2 : tie.Need-returns-2
+returns-2 c =
+    let e = c .before .before .before .before in
+    let a = e .before .before .args in
+    refused binary16 _ _ (told e) _ _ (a .value .now) (a .quotient .now) (c .before .before .why .given .1) (c .refusal-number .ensures)
+
+pub zk-rem16-spec : {M : Type 1} → statement M
+zk-rem16-spec =
+    tie.close
+    (tie.spec
+    kind-of-requires
+    remainder16-requires
+    enum-known-v
+    cast-value
+    enum-known-why
+    refusal-number-requires
+    returns
+    returns-2)

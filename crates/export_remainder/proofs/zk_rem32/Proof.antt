@@ -1,0 +1,57 @@
+-- `zk_rem32` meets its contract: what it writes is what `remainder32` tells. Assumes nothing.
+use mathlib.Core.Path.{_≡_}
+use Rattle.definitions.specs.Format.{binary32}
+use Rattle.definitions.specs.Remainder.{remainder}
+use Rattle.definitions.specs.Answers.{remainderTold}
+use Rattle.definitions.specs.Block.{kindOf}
+use Rattle.laws.proofs.Regular.{regular32}
+use Rattle.export_remainder.proofs.Written.{value-fits, finished, refused}
+use borrow.Author.Needs.{needs}
+use Rattle.export_remainder.proofs.zk_rem32.Statement.{statement}
+use Rattle.export_remainder.proofs.zk_rem32.Tie as tie
+
+-- what is told is the remainder of the kind that the number asks for
+told : (c : tie.After-remainder32) → let a = c .before .before .args in remainderTold binary32 (c .remainder32 .result) ≡ remainder binary32 (kindOf (a .kind)) (a .x) (a .y)
+told c = rw (c .before .kind-of .ensures) at (c .remainder32 .ensures)
+
+kind-of-requires : tie.Need-kind-of-requires
+kind-of-requires c κs = search needs
+
+remainder32-requires : tie.Need-remainder32-requires
+remainder32-requires c κs = search needs
+
+enum-known-v : tie.Need-enum-known-v
+enum-known-v c = search needs
+
+cast-value : tie.Need-cast-value
+cast-value c =
+    let e = c .before .before .before in
+    record { fits = value-fits binary32 regular32 _ _ _ _ _ _ (e .remainder32 .ensures) (c .before .v .given .1) }
+
+enum-known-why : tie.Need-enum-known-why
+enum-known-why c = search needs
+
+refusal-number-requires : tie.Need-refusal-number-requires
+refusal-number-requires c κs = search needs
+
+returns : tie.Need-returns
+returns c = finished binary32 _ _ (told (c .before .before .before)) _ _ (c .before .v .given .1)
+
+returns-2 : tie.Need-returns-2
+returns-2 c =
+    let e = c .before .before .before .before in
+    let a = e .before .before .args in
+    refused binary32 _ _ (told e) _ _ (a .value .now) (a .quotient .now) (c .before .before .why .given .1) (c .refusal-number .ensures)
+
+pub zk-rem32-spec : {M : Type 1} → statement M
+zk-rem32-spec =
+    tie.close
+    (tie.spec
+    kind-of-requires
+    remainder32-requires
+    enum-known-v
+    cast-value
+    enum-known-why
+    refusal-number-requires
+    returns
+    returns-2)

@@ -1,0 +1,50 @@
+-- `zk_rem64` meets its contract: what it writes is what `remainder64` tells. Assumes nothing.
+use mathlib.Core.Path.{_≡_}
+use Rattle.definitions.specs.Format.{binary64}
+use Rattle.definitions.specs.Remainder.{remainder}
+use Rattle.definitions.specs.Answers.{remainderTold}
+use Rattle.definitions.specs.Block.{kindOf}
+use Rattle.export_remainder.proofs.Written.{finished, refused}
+use borrow.Author.Needs.{needs}
+use Rattle.export_remainder.proofs.zk_rem64.Statement.{statement}
+use Rattle.export_remainder.proofs.zk_rem64.Tie as tie
+
+-- what is told is the remainder of the kind that the number asks for
+told : (c : tie.After-remainder64) → let a = c .before .before .args in remainderTold binary64 (c .remainder64 .result) ≡ remainder binary64 (kindOf (a .kind)) (a .x) (a .y)
+told c = rw (c .before .kind-of .ensures) at (c .remainder64 .ensures)
+
+kind-of-requires : tie.Need-kind-of-requires
+kind-of-requires c κs = search needs
+
+remainder64-requires : tie.Need-remainder64-requires
+remainder64-requires c κs = search needs
+
+enum-known-v : tie.Need-enum-known-v
+enum-known-v c = search needs
+
+enum-known-why : tie.Need-enum-known-why
+enum-known-why c = search needs
+
+refusal-number-requires : tie.Need-refusal-number-requires
+refusal-number-requires c κs = search needs
+
+returns : tie.Need-returns
+returns c = finished binary64 _ _ (told (c .before .before .before)) _ _ (c .before .v .given .1)
+
+returns-2 : tie.Need-returns-2
+returns-2 c =
+    let e = c .before .before .before .before in
+    let a = e .before .before .args in
+    refused binary64 _ _ (told e) _ _ (a .value .now) (a .quotient .now) (c .before .before .why .given .1) (c .refusal-number .ensures)
+
+pub zk-rem64-spec : {M : Type 1} → statement M
+zk-rem64-spec =
+    tie.close
+    (tie.spec
+    kind-of-requires
+    remainder64-requires
+    enum-known-v
+    enum-known-why
+    refusal-number-requires
+    returns
+    returns-2)

@@ -1,0 +1,110 @@
+// The remainder in one call, for each format.
+use definitions::Extended;
+use definitions::RemainderAnswer;
+use definitions::RemainderAnswer80;
+use interface::numbers::kind_of;
+use remainder::patterns::remainder16;
+use remainder::patterns::remainder32;
+use remainder::patterns::remainder64;
+use remainder::patterns::remainder80;
+use remainder::refusal::refusal_number;
+ghost use mathlib.Core.Path.{_≡_};
+ghost use Rattle.definitions.specs.Format.{binary16, binary32, binary64, x87};
+ghost use Rattle.definitions.specs.Remainder.{remainder};
+ghost use Rattle.definitions.specs.Block.{kindOf};
+ghost use Rattle.interface.specs.Interface.{after, significandIn, wordIn, pattern};
+
+#[no_mangle]
+pub extern "C" fn zk_rem16(x: u16, y: u16, kind: u32, value: &mut u16, quotient: &mut u32) -> u8
+    ensures number { λ r. ⌜ r ≡ remainder binary16 (kindOf kind) x y .number ⌝ }
+    ensures value { λ r. ⌜ now (value .exit) ≡ after r (remainder binary16 (kindOf kind) x y .value) (now (value .entry)) ⌝ }
+    ensures quotient { λ r. ⌜ now (quotient .exit) ≡ after r (remainder binary16 (kindOf kind) x y .quotient) (now (quotient .entry)) ⌝ }
+{
+    match remainder16(x, y, kind_of(kind)) {
+        RemainderAnswer::Finished {
+            value: v,
+            quotient: q,
+        } => {
+            *value = v as u16;
+            *quotient = q;
+            0
+        }
+        RemainderAnswer::Refused(why) => refusal_number(why),
+    }
+}
+
+#[no_mangle]
+pub extern "C" fn zk_rem32(x: u32, y: u32, kind: u32, value: &mut u32, quotient: &mut u32) -> u8
+    ensures number { λ r. ⌜ r ≡ remainder binary32 (kindOf kind) x y .number ⌝ }
+    ensures value { λ r. ⌜ now (value .exit) ≡ after r (remainder binary32 (kindOf kind) x y .value) (now (value .entry)) ⌝ }
+    ensures quotient { λ r. ⌜ now (quotient .exit) ≡ after r (remainder binary32 (kindOf kind) x y .quotient) (now (quotient .entry)) ⌝ }
+{
+    match remainder32(x, y, kind_of(kind)) {
+        RemainderAnswer::Finished {
+            value: v,
+            quotient: q,
+        } => {
+            *value = v as u32;
+            *quotient = q;
+            0
+        }
+        RemainderAnswer::Refused(why) => refusal_number(why),
+    }
+}
+
+#[no_mangle]
+pub extern "C" fn zk_rem64(x: u64, y: u64, kind: u32, value: &mut u64, quotient: &mut u32) -> u8
+    ensures number { λ r. ⌜ r ≡ remainder binary64 (kindOf kind) x y .number ⌝ }
+    ensures value { λ r. ⌜ now (value .exit) ≡ after r (remainder binary64 (kindOf kind) x y .value) (now (value .entry)) ⌝ }
+    ensures quotient { λ r. ⌜ now (quotient .exit) ≡ after r (remainder binary64 (kindOf kind) x y .quotient) (now (quotient .entry)) ⌝ }
+{
+    match remainder64(x, y, kind_of(kind)) {
+        RemainderAnswer::Finished {
+            value: v,
+            quotient: q,
+        } => {
+            *value = v;
+            *quotient = q;
+            0
+        }
+        RemainderAnswer::Refused(why) => refusal_number(why),
+    }
+}
+
+#[no_mangle]
+pub extern "C" fn zk_rem80(
+    x: u64,
+    xw: u16,
+    y: u64,
+    yw: u16,
+    kind: u32,
+    value: &mut u64,
+    valuew: &mut u16,
+    quotient: &mut u32,
+) -> u8
+    ensures number { λ r. ⌜ r ≡ remainder x87 (kindOf kind) (pattern x xw) (pattern y yw) .number ⌝ }
+    ensures value { λ r. ⌜ now (value .exit) ≡ after r (significandIn (remainder x87 (kindOf kind) (pattern x xw) (pattern y yw) .value)) (now (value .entry)) ⌝ }
+    ensures valuew { λ r. ⌜ now (valuew .exit) ≡ after r (wordIn (remainder x87 (kindOf kind) (pattern x xw) (pattern y yw) .value)) (now (valuew .entry)) ⌝ }
+    ensures quotient { λ r. ⌜ now (quotient .exit) ≡ after r (remainder x87 (kindOf kind) (pattern x xw) (pattern y yw) .quotient) (now (quotient .entry)) ⌝ }
+{
+    let dividend = Extended {
+        significand: x,
+        word: xw,
+    };
+    let divisor = Extended {
+        significand: y,
+        word: yw,
+    };
+    match remainder80(dividend, divisor, kind_of(kind)) {
+        RemainderAnswer80::Finished {
+            value: v,
+            quotient: q,
+        } => {
+            *value = v.significand;
+            *valuew = v.word;
+            *quotient = q;
+            0
+        }
+        RemainderAnswer80::Refused(why) => refusal_number(why),
+    }
+}

@@ -1,0 +1,2 @@
+pub mod WrittenScale
+pub mod WrittenSplit

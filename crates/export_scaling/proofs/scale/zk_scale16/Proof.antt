@@ -1,0 +1,58 @@
+-- `zk_scale16` meets its contract: what it writes is what `scale16` tells. Assumes nothing.
+use mathlib.Core.Path.{_≡_}
+use Rattle.definitions.specs.Format.{binary16}
+use Rattle.definitions.specs.Scale.{scaleReport}
+use Rattle.definitions.specs.Answers.{scaleTold}
+use Rattle.laws.proofs.Regular.{regular16}
+use Rattle.export_scaling.proofs.WrittenScale.{value-fits, scaled, refused}
+use mir.Syntax.{w32}
+use mir.ValLaws.{toZ-ofZ}
+use borrow.Author.Needs.{needs}
+use Rattle.export_scaling.proofs.scale.zk_scale16.Statement.{statement}
+use Rattle.export_scaling.proofs.scale.zk_scale16.Tie as tie
+
+-- what is told, of the power that was handed over
+told : (c : tie.After-scale16) → let a = c .before .args in scaleTold binary16 (c .scale16 .result) ≡ scaleReport binary16 (a .x) (a .power)
+told c = rw (toZ-ofZ w32 (c .before .args .power) (c .before .fits .power)) at (c .scale16 .ensures)
+
+scale16-requires : tie.Need-scale16-requires
+scale16-requires c κs = search needs
+
+enum-known-v : tie.Need-enum-known-v
+enum-known-v c = search needs
+
+cast-value : tie.Need-cast-value
+cast-value c = record { fits = value-fits binary16 regular16 _ _ _ _ _ (c .before .before .before .scale16 .ensures) (c .before .v .given .1) }
+
+says-number-requires : tie.Need-says-number-requires
+says-number-requires c κs = search needs
+
+enum-known-why : tie.Need-enum-known-why
+enum-known-why c = search needs
+
+refusal-number-requires : tie.Need-refusal-number-requires
+refusal-number-requires c κs = search needs
+
+returns : tie.Need-returns
+returns c =
+    let v = c .before .before in
+    scaled binary16 _ _ (told (v .before .before)) _ _ _ (v .v .given .1) (c .says-number .ensures)
+
+returns-2 : tie.Need-returns-2
+returns-2 c =
+    let e = c .before .before .before .before in
+    let a = e .before .args in
+    refused binary16 _ _ (told e) _ _ (a .value .now) (a .says .now) (c .before .before .why .given .1) (c .refusal-number .ensures)
+
+pub zk-scale16-spec : {M : Type 1} → statement M
+zk-scale16-spec =
+    tie.close
+    (tie.spec
+    scale16-requires
+    enum-known-v
+    cast-value
+    says-number-requires
+    enum-known-why
+    refusal-number-requires
+    returns
+    returns-2)

@@ -1,0 +1,53 @@
+-- `zk_scale64` meets its contract: what it writes is what `scale64` tells. Assumes nothing.
+use mathlib.Core.Path.{_≡_}
+use Rattle.definitions.specs.Format.{binary64}
+use Rattle.definitions.specs.Scale.{scaleReport}
+use Rattle.definitions.specs.Answers.{scaleTold}
+use Rattle.export_scaling.proofs.WrittenScale.{scaled, refused}
+use mir.Syntax.{w32}
+use mir.ValLaws.{toZ-ofZ}
+use borrow.Author.Needs.{needs}
+use Rattle.export_scaling.proofs.scale.zk_scale64.Statement.{statement}
+use Rattle.export_scaling.proofs.scale.zk_scale64.Tie as tie
+
+-- what is told, of the power that was handed over
+told : (c : tie.After-scale64) → let a = c .before .args in scaleTold binary64 (c .scale64 .result) ≡ scaleReport binary64 (a .x) (a .power)
+told c = rw (toZ-ofZ w32 (c .before .args .power) (c .before .fits .power)) at (c .scale64 .ensures)
+
+scale64-requires : tie.Need-scale64-requires
+scale64-requires c κs = search needs
+
+enum-known-v : tie.Need-enum-known-v
+enum-known-v c = search needs
+
+says-number-requires : tie.Need-says-number-requires
+says-number-requires c κs = search needs
+
+enum-known-why : tie.Need-enum-known-why
+enum-known-why c = search needs
+
+refusal-number-requires : tie.Need-refusal-number-requires
+refusal-number-requires c κs = search needs
+
+returns : tie.Need-returns
+returns c =
+    let v = c .before .before in
+    scaled binary64 _ _ (told (v .before .before)) _ _ _ (v .v .given .1) (c .says-number .ensures)
+
+returns-2 : tie.Need-returns-2
+returns-2 c =
+    let e = c .before .before .before .before in
+    let a = e .before .args in
+    refused binary64 _ _ (told e) _ _ (a .value .now) (a .says .now) (c .before .before .why .given .1) (c .refusal-number .ensures)
+
+pub zk-scale64-spec : {M : Type 1} → statement M
+zk-scale64-spec =
+    tie.close
+    (tie.spec
+    scale64-requires
+    enum-known-v
+    says-number-requires
+    enum-known-why
+    refusal-number-requires
+    returns
+    returns-2)

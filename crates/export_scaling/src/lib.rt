@@ -1,0 +1,3 @@
+// The exports of scaling and splitting.
+pub mod scale;
+pub mod split;

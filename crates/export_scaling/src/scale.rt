@@ -1,0 +1,91 @@
+// Scaling by a power of two, for each format.
+use definitions::Extended;
+use definitions::ScaleAnswer;
+use definitions::ScaleAnswer80;
+use interface::numbers::says_number;
+use remainder::refusal::refusal_number;
+use scaling::scale::scale16;
+use scaling::scale::scale32;
+use scaling::scale::scale64;
+use scaling::scale::scale80;
+ghost use mathlib.Core.Path.{_≡_};
+ghost use Rattle.definitions.specs.Format.{binary16, binary32, binary64, x87};
+ghost use Rattle.definitions.specs.Scale.{scaleReport};
+ghost use Rattle.interface.specs.Interface.{after, saysNumber, significandIn, wordIn, pattern};
+
+#[no_mangle]
+pub extern "C" fn zk_scale16(x: u16, power: i32, value: &mut u16, says: &mut u8) -> u8
+    ensures number { λ r. ⌜ r ≡ scaleReport binary16 x power .number ⌝ }
+    ensures value { λ r. ⌜ now (value .exit) ≡ after r (scaleReport binary16 x power .value) (now (value .entry)) ⌝ }
+    ensures says { λ r. ⌜ now (says .exit) ≡ after r (saysNumber (scaleReport binary16 x power .says)) (now (says .entry)) ⌝ }
+{
+    match scale16(x, power) {
+        ScaleAnswer::Scaled { value: v, says: s } => {
+            *value = v as u16;
+            *says = says_number(s);
+            0
+        }
+        ScaleAnswer::Refused(why) => refusal_number(why),
+    }
+}
+
+#[no_mangle]
+pub extern "C" fn zk_scale32(x: u32, power: i32, value: &mut u32, says: &mut u8) -> u8
+    ensures number { λ r. ⌜ r ≡ scaleReport binary32 x power .number ⌝ }
+    ensures value { λ r. ⌜ now (value .exit) ≡ after r (scaleReport binary32 x power .value) (now (value .entry)) ⌝ }
+    ensures says { λ r. ⌜ now (says .exit) ≡ after r (saysNumber (scaleReport binary32 x power .says)) (now (says .entry)) ⌝ }
+{
+    match scale32(x, power) {
+        ScaleAnswer::Scaled { value: v, says: s } => {
+            *value = v as u32;
+            *says = says_number(s);
+            0
+        }
+        ScaleAnswer::Refused(why) => refusal_number(why),
+    }
+}
+
+#[no_mangle]
+pub extern "C" fn zk_scale64(x: u64, power: i32, value: &mut u64, says: &mut u8) -> u8
+    ensures number { λ r. ⌜ r ≡ scaleReport binary64 x power .number ⌝ }
+    ensures value { λ r. ⌜ now (value .exit) ≡ after r (scaleReport binary64 x power .value) (now (value .entry)) ⌝ }
+    ensures says { λ r. ⌜ now (says .exit) ≡ after r (saysNumber (scaleReport binary64 x power .says)) (now (says .entry)) ⌝ }
+{
+    match scale64(x, power) {
+        ScaleAnswer::Scaled { value: v, says: s } => {
+            *value = v;
+            *says = says_number(s);
+            0
+        }
+        ScaleAnswer::Refused(why) => refusal_number(why),
+    }
+}
+
+#[no_mangle]
+pub extern "C" fn zk_scale80(
+    x: u64,
+    xw: u16,
+    power: i32,
+    value: &mut u64,
+    valuew: &mut u16,
+    says: &mut u8,
+) -> u8
+    ensures number { λ r. ⌜ r ≡ scaleReport x87 (pattern x xw) power .number ⌝ }
+    ensures value { λ r. ⌜ now (value .exit) ≡ after r (significandIn (scaleReport x87 (pattern x xw) power .value)) (now (value .entry)) ⌝ }
+    ensures valuew { λ r. ⌜ now (valuew .exit) ≡ after r (wordIn (scaleReport x87 (pattern x xw) power .value)) (now (valuew .entry)) ⌝ }
+    ensures says { λ r. ⌜ now (says .exit) ≡ after r (saysNumber (scaleReport x87 (pattern x xw) power .says)) (now (says .entry)) ⌝ }
+{
+    let operand = Extended {
+        significand: x,
+        word: xw,
+    };
+    match scale80(operand, power) {
+        ScaleAnswer80::Scaled { value: v, says: s } => {
+            *value = v.significand;
+            *valuew = v.word;
+            *says = says_number(s);
+            0
+        }
+        ScaleAnswer80::Refused(why) => refusal_number(why),
+    }
+}

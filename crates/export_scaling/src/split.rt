@@ -1,0 +1,101 @@
+// Splitting into a significand and an exponent, for each format.
+use definitions::Extended;
+use definitions::SplitAnswer;
+use definitions::SplitAnswer80;
+use remainder::refusal::refusal_number;
+use scaling::split::split16;
+use scaling::split::split32;
+use scaling::split::split64;
+use scaling::split::split80;
+ghost use mathlib.Core.Path.{_≡_};
+ghost use Rattle.definitions.specs.Format.{binary16, binary32, binary64, x87};
+ghost use Rattle.definitions.specs.Scale.{splitReport};
+ghost use Rattle.interface.specs.Interface.{after, significandIn, wordIn, pattern};
+
+#[no_mangle]
+pub extern "C" fn zk_split16(x: u16, significand: &mut u16, exponent: &mut i32) -> u8
+    ensures number { λ r. ⌜ r ≡ splitReport binary16 x .number ⌝ }
+    ensures significand { λ r. ⌜ now (significand .exit) ≡ after r (splitReport binary16 x .significand) (now (significand .entry)) ⌝ }
+    ensures exponent { λ r. ⌜ now (exponent .exit) ≡ after r (splitReport binary16 x .exponent) (now (exponent .entry)) ⌝ }
+{
+    match split16(x) {
+        SplitAnswer::Parts {
+            significand: s,
+            exponent: e,
+        } => {
+            *significand = s as u16;
+            *exponent = e;
+            0
+        }
+        SplitAnswer::Refused(why) => refusal_number(why),
+    }
+}
+
+#[no_mangle]
+pub extern "C" fn zk_split32(x: u32, significand: &mut u32, exponent: &mut i32) -> u8
+    ensures number { λ r. ⌜ r ≡ splitReport binary32 x .number ⌝ }
+    ensures significand { λ r. ⌜ now (significand .exit) ≡ after r (splitReport binary32 x .significand) (now (significand .entry)) ⌝ }
+    ensures exponent { λ r. ⌜ now (exponent .exit) ≡ after r (splitReport binary32 x .exponent) (now (exponent .entry)) ⌝ }
+{
+    match split32(x) {
+        SplitAnswer::Parts {
+            significand: s,
+            exponent: e,
+        } => {
+            *significand = s as u32;
+            *exponent = e;
+            0
+        }
+        SplitAnswer::Refused(why) => refusal_number(why),
+    }
+}
+
+#[no_mangle]
+pub extern "C" fn zk_split64(x: u64, significand: &mut u64, exponent: &mut i32) -> u8
+    ensures number { λ r. ⌜ r ≡ splitReport binary64 x .number ⌝ }
+    ensures significand { λ r. ⌜ now (significand .exit) ≡ after r (splitReport binary64 x .significand) (now (significand .entry)) ⌝ }
+    ensures exponent { λ r. ⌜ now (exponent .exit) ≡ after r (splitReport binary64 x .exponent) (now (exponent .entry)) ⌝ }
+{
+    match split64(x) {
+        SplitAnswer::Parts {
+            significand: s,
+            exponent: e,
+        } => {
+            *significand = s;
+            *exponent = e;
+            0
+        }
+        SplitAnswer::Refused(why) => refusal_number(why),
+    }
+}
+
+#[no_mangle]
+pub extern "C" fn zk_split80(
+    x: u64,
+    xw: u16,
+    significand: &mut u64,
+    significandw: &mut u16,
+    exponent: &mut i32,
+) -> u8
+    ensures number { λ r. ⌜ r ≡ splitReport x87 (pattern x xw) .number ⌝ }
+    ensures significand { λ r. ⌜ now (significand .exit) ≡ after r (significandIn (splitReport x87 (pattern x xw) .significand)) (now (significand .entry)) ⌝ }
+    ensures significandw { λ r. ⌜ now (significandw .exit) ≡ after r (wordIn (splitReport x87 (pattern x xw) .significand)) (now (significandw .entry)) ⌝ }
+    ensures exponent { λ r. ⌜ now (exponent .exit) ≡ after r (splitReport x87 (pattern x xw) .exponent) (now (exponent .entry)) ⌝ }
+{
+    let operand = Extended {
+        significand: x,
+        word: xw,
+    };
+    match split80(operand) {
+        SplitAnswer80::Parts {
+            significand: s,
+            exponent: e,
+        } => {
+            *significand = s.significand;
+            *significandw = s.word;
+            *exponent = e;
+            0
+        }
+        SplitAnswer80::Refused(why) => refusal_number(why),
+    }
+}

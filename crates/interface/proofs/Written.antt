@@ -1,0 +1,20 @@
+-- What is written through lent numbers, and what a refusal leaves of them. Assumes nothing.
+use mathlib.Core.Path.{_≡_}
+use Prim.Native.Nat.{ℕ, _^_, _<_}
+use native.Mathlib.Omega.{arith}
+use Rattle.definitions.specs.Answers.{refusalNumber, joined}
+use Rattle.definitions.specs.declared.Refusal.{Refusal}
+use Rattle.definitions.specs.declared.Extended.{Extended}
+use Rattle.remainder.proofs.Judge.{refusal-refuses}
+use Rattle.interface.specs.Interface.{after, significandIn, wordIn}
+
+-- a refusal leaves what was lent
+pub kept : {A : Type 0} (w : Refusal) (n : ℕ) (answer lent : A) → n ≡ refusalNumber w → lent ≡ after n answer lent
+kept w n answer lent e = rw (e, refusal-refuses w)
+
+-- the two words of an x87 pattern, out of the one number
+pub significand-of : (v : Extended) → v .significand < 2 ^ 64 → v .significand ≡ significandIn (joined v)
+significand-of v h = omega arith
+
+pub word-of : (v : Extended) → v .significand < 2 ^ 64 → v .word ≡ wordIn (joined v)
+word-of v h = omega arith

@@ -1,0 +1,64 @@
+-- How the code holds an operand. Nothing to believe: these only name the code's own values, so that contracts can be equations.
+use Prim.Native.Nat.{ℕ, _-_, _*_, _/_, _^_, _≤_, _<_}
+use mathlib.Core.Bool.{Bool, cond}
+use lib.Count.{leadingZeros}
+use lib.Dec.{eqb, T}
+use lib.IntN.{ℤ, pos, natAbs, _+ℤ_, _-ℤ_}
+use lib.Signed.{leZ}
+use lib.Ieee.{size}
+use Rattle.definitions.specs.Class.{Value, Class, unsupported, nan, infinite, finite}
+use Rattle.operands.specs.declared.Unpacked.{Unpacked}
+use Rattle.operands.specs.declared.Operand.{Operand}
+use Rattle.operands.specs.declared.Operand.the-variants.{Unsupported, Nan, Infinite, Zero, Finite}
+use Rattle.operands.specs.declared.Trimmed.{Trimmed}
+
+-- a nonzero value with its leading one at bit 63, and its exponent, where the smallest place is 2 ^ s
+unfoldable pub unpackedOf : ℤ → Value → Unpacked
+unpackedOf s v = record { negative = v .negative; significand = v .count * 2 ^ 63 / 2 ^ (size (v .count) - 1); exponent = s +ℤ pos (size (v .count) - 1) }
+
+-- the operand of a class
+unfoldable pub operandOf : ℤ → Class → Operand
+unfolding unpackedOf
+operandOf s unsupported = Unsupported
+operandOf s nan = Nan
+operandOf s (infinite n) = Infinite n
+operandOf s (finite v) = cond (eqb (v .count) 0) (Zero (v .negative)) (Finite (unpackedOf s v))
+
+-- the place of an exponent, counted from the smallest place
+abbrev pub placeIn : ℤ → ℤ → ℕ
+placeIn s e = natAbs (e -ℤ s)
+
+-- the count of the value a × 2^(e − 63)
+abbrev pub countIn : ℤ → ℕ → ℤ → ℕ
+countIn s a e = a * 2 ^ placeIn s e / 2 ^ 63
+
+-- the class of an operand
+unfoldable pub classIn : ℤ → Operand → Class
+classIn s Unsupported = unsupported
+classIn s Nan = nan
+classIn s (Infinite n) = infinite n
+classIn s (Zero n) = finite (record { negative = n; count = 0 })
+classIn s (Finite u) = finite (record { negative = u .negative; count = countIn s (u .significand) (u .exponent) })
+
+-- the value a × 2^(e − 63) with its leading one at bit 63
+unfoldable pub normalOf : Bool → ℕ → ℤ → Operand
+normalOf n a e =
+    cond (eqb a 0) (Zero n) (Finite (record { negative = n; significand = a * 2 ^ leadingZeros 64 a; exponent = e -ℤ pos (leadingZeros 64 a) }))
+
+-- the leading p digits of a count, and how many lie below them
+abbrev pub trimmedOf : ℕ → ℕ → Trimmed
+trimmedOf p n = record { dropped = size n - p; significand = n / 2 ^ (size n - p) }
+
+-- what can be packed: a leading one at bit 63, no exponent below the smallest place, and none past the format's range
+pub record Packable (s : ℤ) (limit : ℕ) (u : Unpacked) : Type 0 where
+  pub top : 2 ^ 63 ≤ u .significand
+  pub word : u .significand < 2 ^ 64
+  pub above : T (leZ s (u .exponent))
+  pub range : placeIn s (u .exponent) < limit
+
+abbrev pub PackableOperand : ℤ → ℕ → Operand → Type 0
+PackableOperand s limit Unsupported = Unit {0}
+PackableOperand s limit Nan = Unit {0}
+PackableOperand s limit (Infinite n) = Unit {0}
+PackableOperand s limit (Zero n) = Unit {0}
+PackableOperand s limit (Finite u) = Packable s limit u

@@ -1,0 +1,4 @@
+pub mod Link
+pub mod Settled
+pub mod Below
+pub mod TwoOperands

@@ -1,0 +1,101 @@
+-- `cut_pair` meets its contract: the division to `size` places, settled in the place that is left. Assumes nothing.
+use mathlib.Core.Path.{_≡_, ap, _∙_}
+use Prim.Native.Nat.{_-_, _*_, _%_, _^_, _≤_}
+use native.Mathlib.Nat.{lt-of-lt-of-le, mod-lt}
+use native.Mathlib.Omega.{arith}
+use lib.IntN.{pos, natAbs, _-ℤ_}
+use lib.Pow.{pow-pos}
+use lib.Signed.{natAbs-le}
+use mir.Syntax.{w32}
+use mir.Val.{toZ, ofZ}
+use mir.ValLaws.{toZ-ofZ, toZ-pos}
+use Rattle.chains.proofs.Step.{sized-bounds}
+use Rattle.digits.proofs.Signed.{small-back, sub-fits, sub-is, mag-sub}
+use Rattle.definitions.specs.declared.Kind.the-variants.{Truncated}
+use Rattle.division.specs.Divided.{dividedOf}
+use Rattle.pairs.proofs.TwoOperands.{not-negative}
+use Rattle.pairs.specs.Pair.{Ready, settledOf}
+use Rattle.pairs.specs.declared.Left.{Left}
+use Rattle.partial.proofs.Standing.{stands-ready}
+use Rattle.partial.proofs.Pairs.{at-least, cut-pair-is}
+use borrow.Author.Needs.{needs}
+use Rattle.partial.proofs.cut_pair.Statement.{statement}
+use Rattle.partial.proofs.cut_pair.Tie as tie
+
+module _ (s : tie.Start) where
+  x-ready : Ready (s .args .x)
+  x-ready = stands-ready (s .args .x) (s .pre .0)
+
+  y-ready : Ready (s .args .y)
+  y-ready = stands-ready (s .args .y) (s .pre .1)
+
+  small : s .args .size ≤ 63
+  small = sized-bounds (s .args .size) (s .pre .2) .1
+
+  exponent-back : toZ w32 (ofZ w32 (s .args .x .exponent)) ≡ s .args .x .exponent
+  exponent-back = small-back (s .args .x .exponent) (omega (arith, x-ready .small))
+
+  size-back : toZ w32 (s .args .size) ≡ pos (s .args .size)
+  size-back = toZ-pos w32 (s .args .size) (omega (arith, small))
+
+  -- the exponent of what is left
+  lower : toZ w32 (ofZ w32 (toZ w32 (ofZ w32 (s .args .x .exponent)) -ℤ toZ w32 (s .args .size))) ≡ s .args .x .exponent -ℤ pos (s .args .size)
+  lower = sub-is (s .args .x .exponent) (pos (s .args .size)) _ _ exponent-back size-back (omega (arith, x-ready .small)) (omega (arith, small))
+
+  gap-back : toZ w32 (ofZ w32 (s .args .d)) ≡ s .args .d
+  gap-back = toZ-ofZ w32 (s .args .d) (s .fits .d)
+
+  places : 64 ≤ natAbs (s .args .d)
+  places = at-least (s .args .x) (s .args .y) (s .pre .0) (s .pre .1) (s .args .d) (s .pre .3) (s .pre .4)
+
+divide-requires : tie.Need-divide-requires
+divide-requires c κs = lt-of-lt-of-le (pow-pos 63) (y-ready c .top)
+
+cast-settle : tie.Need-cast-settle
+cast-settle c = record { sfits = omega (arith, small (c .before)) }
+
+sub-settle : tie.Need-sub-settle
+sub-settle c =
+    let s = c .before .before .before in
+    sub-fits (s .args .x .exponent) (pos (s .args .size)) _ _ (exponent-back s) (size-back s) (omega (arith, x-ready s .small)) (omega (arith, small s))
+
+settle-requires : tie.Need-settle-requires
+settle-requires c κs =
+    let s = c .before .before .before in (
+      rw (c .before .before .divide .ensures) (mod-lt _ (lt-of-lt-of-le (pow-pos 63) (y-ready s .top))),
+      rw (lower s) (omega (arith, mag-sub (s .args .x .exponent) (pos (s .args .size)), x-ready s .small, small s)),
+    )
+
+cast-raised : tie.Need-cast-raised
+cast-raised c = let s = c .before .before .before .before in rw (gap-back s) (not-negative 64 (s .args .d) (s .pre .4), record { fits = omega (arith, natAbs-le (s .args .d) {H = 2 ^ 31} (s .fits .d .sfits)) })
+
+sub-raised : tie.Need-sub-raised
+sub-raised c = let s = c .before .before .before .before in rw (gap-back s) (omega (arith, places s, small s))
+
+raised-requires : tie.Need-raised-requires
+raised-requires c κs = search needs
+
+returns : tie.Need-returns
+returns c =
+    let v = c .before in
+    let e = v .before .before .before in
+    let s = e .before in
+    let a = s .args in
+    let part : c .raised .result ≡ v .settle .result .quotient * 2 ^ (natAbs (a .d) - a .size) % 2 ^ 32 = rw (gap-back s) at (c .raised .ensures) in
+    let left : v .settle .result ≡ settledOf Truncated (a .x .negative) (dividedOf (a .x .significand) (a .y .significand) (a .size)) (a .y .significand) (a .x .exponent -ℤ pos (a .size)) =
+    v .settle .ensures ∙ (λ i. settledOf Truncated (a .x .negative) (e .divide .ensures i) (a .y .significand) (lower s i)) in
+    (λ i. record { value = left i .value; quotient = (part ∙ ap (λ (l : Left). l .quotient * 2 ^ (natAbs (a .d) - a .size) % 2 ^ 32) left) i })
+    ∙ cut-pair-is (a .x) (a .y) (s .pre .0) (s .pre .1) (a .d) (s .pre .3) (s .pre .4) (a .size) (s .pre .2)
+
+pub cut-pair-spec : {M : Type 1} → statement M
+cut-pair-spec =
+    tie.close
+    (tie.spec
+    divide-requires
+    cast-settle
+    sub-settle
+    settle-requires
+    cast-raised
+    sub-raised
+    raised-requires
+    returns)

@@ -1,0 +1,45 @@
+-- The cut by one test: a quotient goes up where twice the left-over, and one more if the quotient is odd, pass the divisor.
+-- Assumes nothing.
+use mathlib.Core.Path.{_≡_, refl}
+use mathlib.Core.Bool.{Bool, true, false, cond}
+use Prim.Native.Nat.{ℕ, _+_, _*_, _/_, _%_, _^_, _<_}
+use native.Mathlib.Nat.{add-zero, div-eq-of-lt, div-lt-self, mod-eq-of-lt, mod-le, mod-lt}
+use native.Mathlib.Omega.{arith}
+use borrow.Author.Tests.{ltb-true, eqb-true}
+use lib.Dec.{ltb, eqb}
+use lib.Pow.{pow-pos}
+use Rattle.definitions.specs.Division.{roundsUp}
+use Rattle.definitions.specs.Cut.{cut, direction}
+use Rattle.definitions.specs.declared.Kind.the-variants.{Nearest}
+use Rattle.definitions.specs.declared.Rounding.the-variants.{Exact, Up, Down}
+use Rattle.laws.proofs.Division.{rounds-up-once}
+use Rattle.rounding.specs.Cut.{cutOf, roundedOf}
+use Rattle.rounding.specs.declared.Cut.{Cut}
+
+module _ (q r m : ℕ) where
+  -- the definition's answer is the code's: where nothing is left over, the test fails
+  pub rounded-once : 0 < m → record { quotient = cond (roundsUp Nearest q r m) (q + 1) q; says = direction (eqb r 0) (roundsUp Nearest q r m) }
+      ≡ roundedOf q r (ltb m (r * 2 + q % 2))
+  rounded-once h = rw (rounds-up-once q r m) (go (ltb m (r * 2 + q % 2)) (eqb r 0) refl refl)
+    where
+      go : (up none : Bool) → ltb m (r * 2 + q % 2) ≡ up → eqb r 0 ≡ none
+          → _≡_ {A = Cut} (record { quotient = cond up (q + 1) q; says = direction none up })
+          (cond none (record { quotient = q; says = Exact }) (cond up (record { quotient = q + 1; says = Up }) (record { quotient = q; says = Down })))
+      go true true e f = absurd (omega (arith, ltb-true m (r * 2 + q % 2) e, eqb-true r 0 f))
+      go false true e f = refl
+      go true false e f = refl
+      go false false e f = refl
+
+module _ (n k : ℕ) where
+  -- the cut is one rounding of the quotient and the remainder by the power
+  pub cut-rounded : cutOf n k ≡ roundedOf (n / 2 ^ k) (n % 2 ^ k) (ltb (2 ^ k) (n % 2 ^ k * 2 + n / 2 ^ k % 2))
+  unfolding cut
+  cut-rounded = rounded-once (n / 2 ^ k) (n % 2 ^ k) (2 ^ k) (pow-pos k)
+
+  -- all of n is cut off
+  pub cut-whole : n < 2 ^ k → cutOf n k ≡ roundedOf 0 n (ltb (2 ^ k) (n * 2))
+  cut-whole h = rw (div-eq-of-lt h, mod-eq-of-lt h, add-zero) at cut-rounded
+
+  -- a quotient with something left over can go up
+  pub cut-room : 0 < n % 2 ^ k → n / 2 ^ k < n
+  cut-room h = div-lt-self (omega (arith, mod-le n (2 ^ k))) (omega (arith, mod-lt n (pow-pos k)))

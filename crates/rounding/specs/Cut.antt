@@ -1,0 +1,16 @@
+-- What the code of the cut answers: the definition's record, as the code's. Definitions only.
+use Prim.Native.Nat.{ℕ, _+_}
+use mathlib.Core.Bool.{Bool, cond}
+use lib.Dec.{eqb}
+use Rattle.definitions.specs.Cut.{cut}
+use Rattle.definitions.specs.declared.Rounding.the-variants.{Exact, Up, Down}
+use Rattle.rounding.specs.declared.Cut.{Cut}
+
+abbrev pub cutOf : ℕ → ℕ → Cut
+cutOf n places = record { quotient = cut n places .quotient; says = cut n places .says }
+
+-- a cut quotient, exact where nothing is left over, else one more where it goes up
+abbrev pub roundedOf : ℕ → ℕ → Bool → Cut
+roundedOf q r up =
+    cond (eqb r 0) (record { quotient = q; says = Exact })
+    (cond up (record { quotient = q + 1; says = Up }) (record { quotient = q; says = Down }))
