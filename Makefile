@@ -31,6 +31,7 @@ cflags = -std=c99 -O2 $(warnings) -Iinclude
 unbuilt = $(foreach n,fmod remainder remquo ldexp frexp,-fno-builtin-$(n) -fno-builtin-$(n)f -fno-builtin-$(n)l)
 parallel = $(MAKE) --no-print-directory -j$$(nproc) --output-sync=target
 headers = tests/calls.h tests/operands.h include/zukemoriha.h
+exported = sed -n 's/^[a-z0-9_]* \(zk_[a-z0-9_]*\)(.*/\1/p' include/zukemoriha.h
 # nothing comes from a registry
 cargo = env CARGO_TARGET_DIR=$(abspath $(out))/rust ZUKEMORIHA_LIB_DIR=$(abspath $(dir $(LIB))) $(CARGO)
 
@@ -123,9 +124,12 @@ always:
 
 tests: header examples install-check rust $(addprefix test-,$(programs))
 
-header: | tools
+# it compiles, and names what the archive exports, no more and no less
+header: $(out)/archive.sum
 	echo '#include "zukemoriha.h"' | $(CC) -std=c99 $(warnings) -Werror -Iinclude -fsyntax-only -x c -
 	echo '#include "zukemoriha.h"' | $(CXX) $(warnings) -Werror -Iinclude -fsyntax-only -x c++ -
+	$(exported) | sort > $(out)/declared
+	nm -g --defined-only $(LIB) | awk 'NF == 3 { print $$3 }' | sort | diff $(out)/declared -
 
 $(out)/%: examples/%.c include/zukemoriha.h $(out)/archive.sum
 	$(CC) $(cflags) $< $(LIB) -o $@
@@ -182,7 +186,7 @@ long-half: $(out)/half
 
 $(faults)/libzukemoriha.a: tests/faults.c include/zukemoriha.h target/libzukemoriha.a
 	mkdir -p $(faults)
-	sed -n 's/^\(uint8_t\|void\) \(zk_[a-z0-9_]*\)(.*/\2 real_\2/p' include/zukemoriha.h > $(faults)/names
+	$(exported) | sed 's/.*/& real_&/' > $(faults)/names
 	objcopy --redefine-syms=$(faults)/names target/libzukemoriha.a $@
 	$(CC) $(cflags) -c tests/faults.c -o $(faults)/faults.o
 	ar r $@ $(faults)/faults.o

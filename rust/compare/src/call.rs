@@ -1,0 +1,99 @@
+//! A call and its answer, in one form for the library, the second implementation and a file.
+
+use crate::formats::Layout;
+use second::{Answer, Folded, Format, Kind};
+
+/// A call of one operation, with its operands in this order. A step or a run is lent a block of
+/// `length` bytes.
+#[derive(Clone, Copy, Debug)]
+pub enum Call {
+    /// format, kind, dividend, divisor
+    Remainder(Format, Kind, u128, u128),
+    /// kind, size, dividend, divisor, length
+    Step(Kind, u32, u128, u128, usize),
+    /// kind, size, budget, dividend, divisor, length
+    Run(Kind, u32, u32, u128, u128, usize),
+    /// format, value, power
+    Scale(Format, u128, i32),
+    /// format, value
+    Split(Format, u128),
+}
+
+/// Whoever can be asked.
+pub trait Implementation: Sync {
+    fn name(&self) -> &'static str;
+    fn answer(&self, call: &Call) -> Answer;
+    /// # Errors
+    /// The number that refuses the list.
+    fn fold(&self, kind: Kind, dividends: &[u64], divisor: u64) -> Result<Folded, u8>;
+}
+
+/// The two that are compared, the library first.
+pub type Pair<'a> = [&'a dyn Implementation; 2];
+
+/// The length that a block must have.
+pub const LENGTH: usize = zukemoriha::Block::LENGTH;
+
+/// No number of an implementation: a call wrote where it may not, or its block says another number
+/// than it returned.
+pub const MISWROTE: u8 = 254;
+
+const BAD_LENGTH: u8 = 9;
+
+/// The answer of a step or a run. Here and below the fields are in the order in which files have
+/// them.
+pub fn divided(value: u128, number: u8, quotient: u32, steps: u32) -> Answer {
+    Answer {
+        number,
+        value,
+        quotient,
+        steps,
+        says: 0,
+        exponent: 0,
+    }
+}
+
+/// The answer of a remainder in one call.
+pub fn remained(value: u128, number: u8, quotient: u32) -> Answer {
+    divided(value, number, quotient, 0)
+}
+
+pub fn scaled(value: u128, number: u8, says: u8) -> Answer {
+    let answer = divided(value, number, 0, 0);
+    Answer { says, ..answer }
+}
+
+pub fn split(value: u128, number: u8, exponent: i32) -> Answer {
+    let answer = divided(value, number, 0, 0);
+    Answer { exponent, ..answer }
+}
+
+pub fn refused(format: Format, number: u8) -> Answer {
+    divided(Layout::of(format).house_nan(), number, 0, 0)
+}
+
+/// The second implementation. It has no blocks: a wrong length is refused here.
+pub struct Second;
+
+impl Implementation for Second {
+    fn name(&self) -> &'static str {
+        "second"
+    }
+
+    fn answer(&self, call: &Call) -> Answer {
+        match *call {
+            Call::Step(.., length) | Call::Run(.., length) if length != LENGTH => {
+                refused(Format::X87, BAD_LENGTH)
+            }
+            Call::Remainder(format, kind, x, y) => second::remainder(format, kind, x, y),
+            Call::Step(kind, size, x, y, _) => second::step(kind, size, x, y),
+            Call::Run(kind, size, budget, x, y, _) => second::run(kind, size, budget, x, y),
+            Call::Scale(format, x, power) => second::scale(format, x, power),
+            Call::Split(format, x) => second::split(format, x),
+        }
+    }
+
+    fn fold(&self, kind: Kind, dividends: &[u64], divisor: u64) -> Result<Folded, u8> {
+        second::fold(kind, dividends, divisor)
+    }
+}

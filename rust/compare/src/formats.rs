@@ -1,0 +1,90 @@
+//! The four formats: how a pattern is laid out, how one is made, and what it stands for. Written
+//! without either implementation, so that what is compared does not choose its own cases.
+
+use second::Format;
+
+pub const FORMATS: [Format; 4] = [
+    Format::Binary16,
+    Format::Binary32,
+    Format::Binary64,
+    Format::X87,
+];
+
+pub struct Layout {
+    /// Bits of the exponent field.
+    field: u64,
+    /// Digits of the significand in the pattern: all formats but x87 leave out the leading one.
+    stored: u64,
+    pub precision: u64,
+}
+
+impl Layout {
+    pub fn of(format: Format) -> Layout {
+        let (field, stored, precision) = match format {
+            Format::Binary16 => (5, 10, 11),
+            Format::Binary32 => (8, 23, 24),
+            Format::Binary64 => (11, 52, 53),
+            Format::X87 => (15, 64, 64),
+        };
+        Layout {
+            field,
+            stored,
+            precision,
+        }
+    }
+
+    /// How many hex digits a pattern is written in.
+    pub fn hex_digits(&self) -> usize {
+        (1 + self.field + self.stored) as usize / 4
+    }
+
+    /// The exponent field of infinities and NaNs.
+    pub fn ones(&self) -> u64 {
+        (1 << self.field) - 1
+    }
+
+    /// The leading digit of a normal significand.
+    pub fn leading(&self) -> u64 {
+        1 << (self.precision - 1)
+    }
+
+    /// How far the largest place is above the smallest: the largest gap of two exponents.
+    pub fn top(&self) -> u64 {
+        self.ones() + self.precision - 3
+    }
+
+    /// A pattern of its parts; a leading digit that is not stored falls away.
+    pub fn packed(&self, sign: u64, field: u64, significand: u64) -> u128 {
+        let word = u128::from(sign << self.field | field);
+        word << self.stored | u128::from(significand) & ((1 << self.stored) - 1)
+    }
+
+    /// A value with its leading one so far above the smallest place. The top bit of `digits`
+    /// stands for that one; digits that there is no room for are dropped.
+    pub fn placed(&self, sign: u64, place: u64, digits: u64) -> u128 {
+        let digits = digits | 1 << 63;
+        match place.checked_sub(self.precision - 2) {
+            Some(field) if field > 0 => self.packed(sign, field, digits >> (64 - self.precision)),
+            _ => self.packed(sign, 0, digits >> (63 - place)),
+        }
+    }
+
+    /// The NaN that stands for the value of a refused call.
+    pub fn house_nan(&self) -> u128 {
+        self.packed(0, self.ones(), self.leading() | self.leading() >> 1)
+    }
+
+    /// The class of a pattern, and for a finite one the place of its leading one.
+    pub fn sorted(&self, x: u128) -> (&'static str, u64) {
+        let (field, digits) = ((x >> self.stored) as u64 & self.ones(), x as u64);
+        let is_led = digits >> 63 == 1;
+        match digits % self.leading() {
+            _ if self.stored == 64 && is_led != (field > 0) => ("unsupported", 0),
+            0 if field == 0 => ("zero", 0),
+            rest if field == 0 => ("denormal", 63 - u64::from(rest.leading_zeros())),
+            _ if field < self.ones() => ("normal", field + self.precision - 2),
+            0 => ("infinity", 0),
+            _ => ("NaN", 0),
+        }
+    }
+}

@@ -1,0 +1,28 @@
+//! Zukemoriha and an independent second implementation, side by side.
+//!
+//! A comparison takes the two as a [`Pair`], asks both the same, and holds their answers to each
+//! other and to what a file expects. The tests run every comparison on [`PAIR`], and then on a
+//! library that is wrong in one answer, to see that it is noticed.
+#![forbid(unsafe_code)]
+
+mod call;
+mod comparison;
+mod fields;
+pub mod folds;
+mod formats;
+pub mod half;
+mod library;
+pub mod lists;
+mod operands;
+pub mod published;
+pub mod sequence;
+pub mod vectors;
+
+pub use call::{Call, Implementation, Pair, Second, MISWROTE};
+pub use comparison::Comparison;
+pub use fields::read;
+pub use library::{lent, lent_lists, Library};
+pub use second::{Answer, Folded, Format, Kind};
+
+/// What is compared.
+pub const PAIR: Pair<'static> = [&Library, &Second];

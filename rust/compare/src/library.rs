@@ -1,0 +1,135 @@
+//! The library's answers. What it is lent lies among filled bytes, so that a call that writes more
+//! than it may, or anything with a refusal, is seen.
+
+use crate::call::{divided, refused, remained, scaled, split, Call, Implementation, MISWROTE};
+use second::{Answer, Folded, Format, Kind};
+use std::ops::Range;
+use zukemoriha::{binary16, binary32, binary64, x87, Block, Refusal, X87};
+
+const FILLED: u8 = 0xA5;
+/// Filled bytes on either side of a block.
+const SIDE: usize = 16;
+
+/// Calls a function of the format's own module, on operands of its own type, and makes an answer
+/// of two fields of what it returns.
+macro_rules! in_format {
+    ($format:ident, $function:ident($($x:ident),*; $($other:expr),*),
+     $answer:ident($value:ident, $more:ident)) => {
+        match $format {
+            Format::Binary16 => binary16::$function($($x as u16,)* $($other),*)
+                .map(|told| $answer(told.$value.into(), 0, told.$more as _)),
+            Format::Binary32 => binary32::$function($($x as u32,)* $($other),*)
+                .map(|told| $answer(told.$value.into(), 0, told.$more as _)),
+            Format::Binary64 => binary64::$function($($x as u64,)* $($other),*)
+                .map(|told| $answer(told.$value.into(), 0, told.$more as _)),
+            Format::X87 => x87::$function($(operand($x),)* $($other),*)
+                .map(|told| $answer(pattern(told.$value), 0, told.$more as _)),
+        }
+        .unwrap_or_else(|why| refused($format, why.number()))
+    };
+}
+
+pub struct Library;
+
+impl Implementation for Library {
+    fn name(&self) -> &'static str {
+        "library"
+    }
+
+    fn answer(&self, call: &Call) -> Answer {
+        match *call {
+            Call::Remainder(format, kind, x, y) => {
+                in_format!(format, remainder(x, y; kind_of(kind)), remained(value, quotient))
+            }
+            Call::Step(kind, size, x, y, length) => lent(length, |room, block| {
+                let (x, y) = (operand(x), operand(y));
+                x87::step_into(x, y, size, kind_of(kind), &mut room[block])
+            }),
+            Call::Run(kind, size, budget, x, y, length) => lent(length, |room, block| {
+                let (x, y) = (operand(x), operand(y));
+                x87::run_into(x, y, size, kind_of(kind), budget, &mut room[block])
+            }),
+            Call::Scale(format, x, power) => {
+                in_format!(format, scale(x; power), scaled(value, rounding))
+            }
+            Call::Split(format, x) => {
+                in_format!(format, split(x;), split(significand, exponent))
+            }
+        }
+    }
+
+    fn fold(&self, kind: Kind, dividends: &[u64], divisor: u64) -> Result<Folded, u8> {
+        let n = dividends.len();
+        lent_lists(n, |results, quotients| {
+            let (results, quotients) = (&mut results[..n], &mut quotients[..n]);
+            binary64::fold(dividends, results, quotients, divisor, kind_of(kind))
+        })
+    }
+}
+
+/// What a call that is lent a block tells. It gets the whole room, and where the block lies in it.
+pub fn lent<F>(length: usize, call: F) -> Answer
+where
+    F: FnOnce(&mut [u8], Range<usize>) -> Result<zukemoriha::Answer, Refusal>,
+{
+    let mut room = vec![FILLED; SIDE + length + SIDE];
+    let place = SIDE..SIDE + length;
+    let told = call(&mut room, place.clone());
+    let written: Result<[u8; Block::LENGTH], _> = room[place.clone()].try_into();
+    if told.is_ok() {
+        room[place].fill(FILLED);
+    }
+    let kept = room.iter().all(|&byte| byte == FILLED);
+    let block = written.ok().as_ref().and_then(Block::from_bytes);
+    match (told, block) {
+        (Err(why), _) if kept => refused(Format::X87, why.number()),
+        (Ok(answer), Some(block)) if kept && block.answer == answer => {
+            let quotient = block.quotient.into();
+            divided(pattern(block.value), answer.number(), quotient, block.steps)
+        }
+        _ => refused(Format::X87, MISWROTE),
+    }
+}
+
+/// What a fold that is lent lists of `n` places tells. It gets them with one place more.
+///
+/// # Errors
+/// The number that refuses the list.
+pub fn lent_lists<F>(n: usize, fold: F) -> Result<Folded, u8>
+where
+    F: FnOnce(&mut [u64], &mut [u8]) -> Result<usize, Refusal>,
+{
+    let filled = u64::from_ne_bytes([FILLED; 8]);
+    let (mut results, mut quotients) = (vec![filled; n + 1], vec![FILLED; n + 1]);
+    let told = fold(&mut results, &mut quotients);
+    let written = if told.is_ok() { n } else { 0 };
+    let kept = results.drain(written..).all(|place| place == filled)
+        && quotients.drain(written..).all(|byte| byte == FILLED);
+    match told {
+        _ if !kept => Err(MISWROTE),
+        Err(why) => Err(why.number()),
+        Ok(marked) => Ok(Folded {
+            results,
+            quotients,
+            marked,
+        }),
+    }
+}
+
+fn kind_of(kind: Kind) -> zukemoriha::Kind {
+    match kind {
+        Kind::Truncated => zukemoriha::Kind::Truncated,
+        Kind::Nearest => zukemoriha::Kind::Nearest,
+    }
+}
+
+fn operand(x: u128) -> X87 {
+    X87 {
+        significand: x as u64,
+        word: (x >> 64) as u16,
+    }
+}
+
+fn pattern(x: X87) -> u128 {
+    u128::from(x.word) << 64 | u128::from(x.significand)
+}

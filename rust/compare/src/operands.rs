@@ -1,0 +1,98 @@
+//! Operands of the generated sequence: every class of pattern by every class, every band of the gap
+//! D (the exponent of the dividend less that of the divisor), and ties.
+
+use crate::formats::Layout;
+
+/// Where the bands of D begin that are not negative. The largest D of a format is one more band.
+pub const BANDS: [u64; 9] = [0, 1, 2, 10, 13, 52, 64, 67, 1000];
+
+/// A deterministic sequence of draws (splitmix64).
+pub struct Draw(pub u64);
+
+impl Draw {
+    pub fn bits(&mut self) -> u64 {
+        self.0 = self.0.wrapping_add(0x9E37_79B9_7F4A_7C15);
+        let a = (self.0 ^ self.0 >> 30).wrapping_mul(0xBF58_476D_1CE4_E5B9);
+        let b = (a ^ a >> 27).wrapping_mul(0x94D0_49BB_1331_11EB);
+        b ^ b >> 31
+    }
+
+    pub fn below(&mut self, n: u64) -> u64 {
+        self.bits() % n
+    }
+
+    /// Sixteen recipes.
+    pub fn pair(&mut self, layout: &Layout) -> (u128, u128) {
+        let recipe = self.below(16);
+        let any_gap = 1 + self.below(layout.top());
+        match recipe {
+            0..=2 => (self.any(layout), self.any(layout)),
+            3 => self.tied(layout),
+            4 => {
+                let gap = if self.below(2) == 0 { 1 } else { any_gap };
+                let (x, y) = self.apart(layout, gap);
+                (y, x)
+            }
+            5 => self.apart(layout, layout.top()),
+            // steps begin to be partial here
+            6 => self.apart(layout, 62 + any_gap % 6),
+            _ => {
+                let band = recipe as usize - 7;
+                let width = BANDS
+                    .get(band + 1)
+                    .map_or(32_000, |next| next - BANDS[band]);
+                let gap = BANDS[band] + self.below(width);
+                self.apart(layout, gap)
+            }
+        }
+    }
+
+    /// Any bits, the fields at their ends more often: of every class, x87's unsupported one too.
+    pub fn any(&mut self, layout: &Layout) -> u128 {
+        let (ones, leading, digits) = (layout.ones(), layout.leading(), self.digits());
+        let field = [0, 1, ones - 1, ones, self.below(ones + 1)][self.below(5) as usize];
+        let significand = [0, leading, digits, leading | digits][self.below(4) as usize];
+        layout.packed(self.below(2), field, significand)
+    }
+
+    /// A dividend with its leading one so many places above the divisor's, or as many as are left
+    /// of them in a format that has no such gap.
+    fn apart(&mut self, layout: &Layout, gap: u64) -> (u128, u128) {
+        let gap = gap % (layout.top() + 1);
+        let room = layout.top() - gap;
+        let low = [0, room, self.below(room + 1), self.below(room + 1)][self.below(4) as usize];
+        let y = self.digits();
+        let x = match self.below(4) {
+            // the same digits, or all but the last
+            0 => y ^ self.below(2) << (64 - layout.precision),
+            _ => self.digits(),
+        };
+        let x = layout.placed(self.below(2), low + gap, x);
+        (x, layout.placed(self.below(2), low, y))
+    }
+
+    /// x is an odd number of halves of y: the nearest quotient is a tie.
+    fn tied(&mut self, layout: &Layout) -> (u128, u128) {
+        let m = self.bits() >> 56 | 1;
+        let k = self.bits() >> (72 - layout.precision + self.below(layout.precision - 8)) | 1;
+        let low = self.below(2) * self.below(layout.top() - layout.precision);
+        let mut counted = |n: u64, place: u64| {
+            let zeros = n.leading_zeros();
+            layout.placed(self.below(2), place + 63 - u64::from(zeros), n << zeros)
+        };
+        (counted(k * m, low), counted(m, low + 1))
+    }
+
+    /// Any digits, or few ones, or few zeros.
+    fn digits(&mut self) -> u64 {
+        let any = self.bits();
+        match self.below(8) {
+            0 => 0,
+            1 => u64::MAX,
+            2 => any >> 56 << 56,
+            3 => any | u64::MAX << 8,
+            4 => 1 << (any % 64),
+            _ => any,
+        }
+    }
+}

@@ -1,0 +1,110 @@
+//! A generated sequence of operand pairs, each through every operation that its format has, and
+//! what it covers.
+
+use crate::call::{Call, Pair, LENGTH};
+use crate::formats::{Layout, FORMATS};
+use crate::operands::{Draw, BANDS};
+use crate::Comparison;
+use second::{Format, Kind};
+use std::collections::BTreeMap;
+
+const SEED: u64 = 1;
+
+/// How often a thing was seen, by a name that begins with the format.
+pub type Covered = BTreeMap<String, u64>;
+
+/// So many pairs, the formats by turns.
+pub fn compare(pair: Pair, pairs: usize) -> (Comparison, Covered) {
+    let mut comparison = Comparison::new(pair);
+    let mut covered = Covered::new();
+    let mut draw = Draw(SEED);
+    for format in FORMATS.into_iter().cycle().take(pairs) {
+        let layout = Layout::of(format);
+        let mut note =
+            |seen: String| *covered.entry(format!("{format:?} {seen}")).or_insert(0) += 1;
+        let (x, y) = draw.pair(&layout);
+        let ((x_class, x_place), (y_class, y_place)) = (layout.sorted(x), layout.sorted(y));
+        note(format!("{x_class} by {y_class}"));
+        if [x_class, y_class]
+            .iter()
+            .all(|class| class.ends_with("normal"))
+        {
+            note(format!("gap {}", band(layout.top(), x_place, y_place)));
+        }
+        for call in calls(format, &mut draw, x, y) {
+            let told = comparison.call(&call, None);
+            note(format!("number {}", told.number));
+            if matches!(call, Call::Scale(..)) && told.number == 0 {
+                note(format!("scaling says {}", told.says));
+            }
+        }
+    }
+    (comparison, covered)
+}
+
+fn band(top: u64, x: u64, y: u64) -> String {
+    match x.checked_sub(y) {
+        None => "negative".into(),
+        Some(gap) if gap == top => "largest".into(),
+        Some(gap) => {
+            let least = BANDS.iter().rfind(|&&least| least <= gap).unwrap_or(&0);
+            format!("from {least}")
+        }
+    }
+}
+
+/// A remainder of both kinds, a scaling and a splitting; in x87 a step and a run of both kinds.
+fn calls(format: Format, draw: &mut Draw, x: u128, y: u128) -> Vec<Call> {
+    let power = power(draw, &Layout::of(format), x);
+    let mut calls = vec![Call::Scale(format, x, power), Call::Split(format, x)];
+    let (size, budget, length) = (size(draw), budget(draw), length(draw));
+    for kind in [Kind::Truncated, Kind::Nearest] {
+        calls.push(Call::Remainder(format, kind, x, y));
+        if format == Format::X87 {
+            calls.push(Call::Step(kind, size, x, y, length));
+            calls.push(Call::Run(kind, size, budget, x, y, length));
+        }
+    }
+    calls
+}
+
+/// Any power, the ends of them, a small one, one that takes x to the largest place, and most often
+/// one that takes it to the smallest, where it is rounded.
+fn power(draw: &mut Draw, layout: &Layout, x: u128) -> i32 {
+    let (_, place) = layout.sorted(x);
+    match draw.below(8) {
+        0 => i32::MIN,
+        1 => i32::MAX,
+        2 => draw.bits() as i32,
+        3 => draw.below(140) as i32 - 70,
+        4 => (layout.top() + draw.below(4)) as i32 - place as i32,
+        _ => draw.below(72) as i32 - 6 - place as i32,
+    }
+}
+
+/// Sizes from 31 to 64, more often the largest, and now and then any.
+fn size(draw: &mut Draw) -> u32 {
+    match draw.below(16) {
+        0 => draw.bits() as u32,
+        1..=4 => draw.below(3) as u32 + 61,
+        _ => draw.below(34) as u32 + 31,
+    }
+}
+
+fn budget(draw: &mut Draw) -> u32 {
+    match draw.below(8) {
+        0..=2 => draw.below(4) as u32,
+        3 => draw.below(40) as u32,
+        4 => draw.below(1100) as u32,
+        5 => draw.bits() as u32,
+        _ => u32::MAX,
+    }
+}
+
+/// Now and then a wrong one, of which one more has the right last byte.
+fn length(draw: &mut Draw) -> usize {
+    match draw.below(64) {
+        0 => [0, LENGTH - 1, LENGTH + 1, LENGTH + 256][draw.below(4) as usize],
+        _ => LENGTH,
+    }
+}

@@ -1,0 +1,202 @@
+//! What the comparisons are worth: each of them, on a library that is wrong in one answer, and on a
+//! file that is wrong in one field, has to notice it. The differences that this prints are wanted.
+
+use compare::*;
+use std::sync::atomic::{AtomicI64, Ordering};
+use zukemoriha::Answer::{Finished, Partial};
+use zukemoriha::Refusal::{BadSize, ZeroDivisor};
+
+type Change<T> = fn(&mut T);
+
+/// The library, with one of its finished answers, or one of its lists with a mark, changed.
+struct Altered {
+    /// How many of them come before that one.
+    left: AtomicI64,
+    answer: Change<Answer>,
+    list: Change<Result<Folded, u8>>,
+}
+
+impl Altered {
+    fn new(answer: Change<Answer>, list: Change<Result<Folded, u8>>) -> Altered {
+        let left = AtomicI64::new(5);
+        Altered { left, answer, list }
+    }
+
+    fn is_the_one(&self) -> bool {
+        self.left.fetch_sub(1, Ordering::Relaxed) == 0
+    }
+}
+
+impl Implementation for Altered {
+    fn name(&self) -> &'static str {
+        "altered"
+    }
+
+    fn answer(&self, call: &Call) -> Answer {
+        let mut answer = Library.answer(call);
+        if answer.number == 0 && self.is_the_one() {
+            (self.answer)(&mut answer);
+        }
+        answer
+    }
+
+    fn fold(&self, kind: Kind, dividends: &[u64], divisor: u64) -> Result<Folded, u8> {
+        let mut list = Library.fold(kind, dividends, divisor);
+        if matches!(&list, Ok(folded) if folded.marked > 0) && self.is_the_one() {
+            (self.list)(&mut list);
+        }
+        list
+    }
+}
+
+/// The differences in a file.
+fn in_file(pair: Pair, path: &str, text: &str) -> u64 {
+    let name = path.rsplit('/').next().unwrap();
+    match name.split('-').next().unwrap() {
+        "published" => published::compare(pair, text, "").0.different,
+        "list" => lists::compare(pair, text).0.different,
+        "fold" => folds::compare(pair, text).different,
+        _ => vectors::compare(pair, name, text).different,
+    }
+}
+
+const FILES: [&str; 7] = [
+    "computed/rem-binary16.txt",
+    "computed/step-x87.txt",
+    "computed/run-x87.txt",
+    "computed/scale-binary64.txt",
+    "computed/split-binary32.txt",
+    "computed/list-x87.txt",
+    "published/published-gcc.txt",
+];
+
+#[test]
+fn one_wrong_answer_is_noticed() {
+    let changes: [(&str, Change<Answer>); 6] = [
+        ("a bit of the value", |answer| answer.value ^= 1),
+        ("the number", |answer| answer.number = 5),
+        ("the quotient", |answer| answer.quotient ^= 4),
+        ("the steps", |answer| answer.steps += 1),
+        ("what it says", |answer| answer.says ^= 2),
+        ("the exponent", |answer| answer.exponent -= 1),
+    ];
+    for (what, change) in changes {
+        let altered = || Altered::new(change, |_| ());
+        for path in FILES {
+            let different = in_file([&altered(), &Second], path, &read(path));
+            assert!(different > 0, "{what}, {path}");
+        }
+        let different = sequence::compare([&altered(), &Second], 100).0.different;
+        assert_eq!(different, 1, "{what}, sequence");
+        let different = half::compare([&altered(), &Second], &[0x3C00], &|_| ()).different;
+        assert_eq!(different, 1, "{what}, half");
+    }
+}
+
+#[test]
+fn one_wrong_list_is_noticed() {
+    fn in_place(list: &mut Result<Folded, u8>, change: Change<Folded>) {
+        change(list.as_mut().unwrap())
+    }
+    let changes: [(&str, Change<Result<Folded, u8>>); 6] = [
+        ("number", |list| *list = Err(3)),
+        ("count", |list| in_place(list, |list| list.marked -= 1)),
+        ("result", |list| in_place(list, |list| list.results[0] ^= 1)),
+        ("quotient", |list| {
+            in_place(list, |list| list.quotients[0] ^= 1)
+        }),
+        ("mark", |list| {
+            in_place(list, |list| list.quotients.retain(|&byte| byte < 255))
+        }),
+        ("length", |list| {
+            in_place(list, |list| list.results.truncate(1))
+        }),
+    ];
+    let text = read("computed/fold-binary64.txt");
+    for (what, change) in changes {
+        let altered = Altered::new(|_| (), change);
+        let different = folds::compare([&altered, &Second], &text).different;
+        assert!(different > 0, "{what}");
+    }
+}
+
+/// A text with the last character of one field changed.
+fn altered_text(text: &str, line: usize, field: usize) -> String {
+    let mut lines: Vec<String> = text.lines().map(String::from).collect();
+    let mut words: Vec<String> = lines[line].split(' ').map(String::from).collect();
+    let last = words[field].pop();
+    words[field].push(if last == Some('0') { '1' } else { '0' });
+    lines[line] = words.join(" ");
+    lines.join("\n")
+}
+
+#[test]
+fn one_wrong_field_of_a_file_is_noticed() {
+    for (path, line, fields) in [
+        ("computed/rem-x87.txt", 0, 2..7),
+        ("computed/step-x87.txt", 0, 4..8),
+        ("computed/run-x87.txt", 0, 5..9),
+        ("computed/list-x87.txt", 0, 4..9),
+        ("computed/scale-binary32.txt", 1, 2..5),
+        ("computed/split-binary16.txt", 3, 1..4),
+        ("computed/fold-binary64.txt", 0, 2..4),
+        ("computed/fold-binary64.txt", 1, 1..3),
+        ("published/published-gcc.txt", 1, 4..6),
+    ] {
+        for field in fields {
+            let text = altered_text(&read(path), line, field);
+            assert!(in_file(PAIR, path, &text) > 0, "{path}, field {field}");
+        }
+    }
+}
+
+/// As they are printed the two bad cases are different.
+#[test]
+fn bad_cases_are_noticed() {
+    let path = "published/published-newlib.txt";
+    assert_eq!(in_file(PAIR, path, &read(path)), 2);
+}
+
+/// Bytes from one before the block on, and what the call returns.
+#[test]
+fn a_block_that_is_written_wrongly_is_noticed() {
+    for (written, told, number) in [
+        (0..0, Err(BadSize), 6),
+        (1..17, Ok(Finished), 0),
+        (16..17, Err(BadSize), MISWROTE),
+        (0..17, Ok(Finished), MISWROTE),
+        (1..18, Ok(Finished), MISWROTE),
+        (1..17, Ok(Partial), MISWROTE),
+        (0..0, Ok(Finished), MISWROTE),
+    ] {
+        let answer = lent(16, |room, block| {
+            room[block.start - 1..][written.clone()].fill(0);
+            told
+        });
+        assert_eq!(answer.number, number, "{written:?}, {told:?}");
+    }
+}
+
+/// Places of both lists, which have two and a filled one, and what the fold returns.
+#[test]
+fn lists_that_are_written_wrongly_are_noticed() {
+    for (results, quotients, told, number) in [
+        (0..0, 0..0, Err(ZeroDivisor), 5),
+        (1..2, 0..0, Err(ZeroDivisor), MISWROTE),
+        (0..0, 0..1, Err(ZeroDivisor), MISWROTE),
+        (0..2, 0..2, Ok(0), 0),
+        (0..3, 0..2, Ok(0), MISWROTE),
+        (0..2, 0..3, Ok(0), MISWROTE),
+    ] {
+        let folded = lent_lists(2, |lent_results, lent_quotients| {
+            lent_results[results.clone()].fill(0);
+            lent_quotients[quotients.clone()].fill(0);
+            told
+        });
+        assert_eq!(
+            folded.err().unwrap_or(0),
+            number,
+            "{results:?}, {quotients:?}, {told:?}"
+        );
+    }
+}

@@ -1,0 +1,20 @@
+//! A slice of the pairs of binary16. The program `half` runs all of them.
+
+use compare::{half, PAIR};
+
+#[test]
+fn some_dividends_by_every_divisor() {
+    // The ends of the denormals and of the finite values, and others from everywhere.
+    let ends = (0x0000..8).chain(0x03FC..0x0404).chain(0x7BFC..0x7C04);
+    let dividends: Vec<u16> = ends.chain((0..=u16::MAX).step_by(1021)).collect();
+    let comparison = half::compare(PAIR, &dividends, &|_| ());
+    let pairs = comparison.answers / 2;
+    println!(
+        "binary16: {pairs} pairs, both kinds, {} different",
+        comparison.different
+    );
+    assert_eq!(
+        (pairs, comparison.different),
+        (dividends.len() as u64 * 65536, 0)
+    );
+}

@@ -1,0 +1,63 @@
+//! The readings: twelve worked examples that came with the definitions, through both
+//! implementations. They are in the layout of the vectors.
+
+use compare::{vectors, PAIR};
+
+/// 1 to 6: 5.5, 5 and 7 by 2, -6 by 3, 2^75 by 2^-75, two by three of the smallest denormal.
+const REMAINDERS: &str = "\
+40B00000 40000000 3FC00000 2 BF000000 3 0
+40A00000 40000000 3F800000 2 3F800000 2 0
+40E00000 40000000 3F800000 3 BF800000 4 0
+C0C00000 40400000 80000000 2 80000000 2 0
+65000000 1A000000 00000000 0 00000000 0 0
+00000002 00000003 00000002 0 80000001 1 0
+";
+
+/// 7: 2^65 by 3 with size 63 is 2 with part 2 in both kinds; then 2 with 0, or -1 with 1. 8: with
+/// size 32 it is 2^33 with part 0; then 2 with 2. Last a partial value that falls further: 2^127
+/// by 2^64 - 1 with size 63 is 2^63.
+const STEPS: &str = "\
+40408000000000000000 4000C000000000000000 63 0 40008000000000000000 1 2 1
+40408000000000000000 4000C000000000000000 63 1 40008000000000000000 1 2 1
+40008000000000000000 4000C000000000000000 63 0 40008000000000000000 0 0 1
+40008000000000000000 4000C000000000000000 63 1 BFFF8000000000000000 0 1 1
+40408000000000000000 4000C000000000000000 32 0 40208000000000000000 1 0 1
+40208000000000000000 4000C000000000000000 32 0 40008000000000000000 0 2 1
+407E8000000000000000 403EFFFFFFFFFFFFFFFF 63 0 403E8000000000000000 1 0 1
+";
+
+/// 7 and 8 as runs. 11: 2^63 by 1 takes one step, 2^64 by 1 two. 12: the largest finite value by
+/// the smallest denormal takes three. The last two with a small budget, and with the largest.
+const RUNS: &str = "\
+40408000000000000000 4000C000000000000000 63 0 2 40008000000000000000 0 2 2
+40408000000000000000 4000C000000000000000 63 1 2 BFFF8000000000000000 0 3 2
+40408000000000000000 4000C000000000000000 32 0 2 40008000000000000000 0 2 2
+403E8000000000000000 3FFF8000000000000000 63 0 9 00000000000000000000 0 0 1
+403F8000000000000000 3FFF8000000000000000 63 0 9 00000000000000000000 0 0 2
+7FFEFFFFFFFFFFFFFFFF 00000000000000000001 32 0 9 00000000000000000000 0 0 3
+403E8000000000000000 3FFF8000000000000000 63 0 4294967295 00000000000000000000 0 0 1
+403F8000000000000000 3FFF8000000000000000 63 0 4294967295 00000000000000000000 0 0 2
+7FFEFFFFFFFFFFFFFFFF 00000000000000000001 32 0 4294967295 00000000000000000000 0 0 3
+";
+
+/// 9 and 10: one and three of the smallest denormal halved; 1 by 2^127 and by 2^128.
+const SCALINGS: &str = "\
+00000001 -1 00000000 0 2
+00000003 -1 00000002 0 1
+3F800000 127 7F000000 0 0
+3F800000 128 7F800000 0 1
+";
+
+#[test]
+fn readings_are_as_printed() {
+    let compared = [
+        vectors::compare(PAIR, "rem-binary32.txt", REMAINDERS),
+        vectors::compare(PAIR, "step-x87.txt", STEPS),
+        vectors::compare(PAIR, "run-x87.txt", RUNS),
+        vectors::compare(PAIR, "scale-binary32.txt", SCALINGS),
+    ];
+    let answers: u64 = compared.iter().map(|readings| readings.answers).sum();
+    let different: u64 = compared.iter().map(|readings| readings.different).sum();
+    println!("readings 1 to 12: {answers} answers, {different} different");
+    assert_eq!((answers, different), (32, 0));
+}

@@ -1,0 +1,111 @@
+//! Exact floating-point remainders, computed on bit patterns in whole numbers, and proved.
+//!
+//! The truncated remainder (C's `fmod`) and the nearest one (IEEE 754's `remainder`), with the
+//! three low bits of the quotient; the processor's partial step (FPREM, FPREM1) and runs of it;
+//! scaling by a power of two; splitting into significand and exponent; folding of lists.
+//!
+//! ```
+//! use zukemoriha::{remainder_f64, Kind};
+//!
+//! // An angle in degrees, folded onto one turn.
+//! let angle = remainder_f64(1e22, 360.0, Kind::Truncated)?;
+//! assert_eq!(angle.value, 280.0);
+//! assert_eq!(angle.quotient, 1); // the whole turns, modulo 8
+//! # Ok::<(), zukemoriha::Refusal>(())
+//! ```
+//!
+//! - **Every bit pattern is taken.** Nothing has to be looked at before a call: bad input is
+//!   refused by a [`Refusal`], and a refused call writes nothing.
+//! - **Exact.** A remainder is right to the last bit and the sign of zero, however far apart the
+//!   operands are. Only scaling rounds: once, ties to even.
+//! - **Proved.** The archive that does the work is written in Rattle, a systems language like
+//!   Rust in which a function is compiled only once it is proved to meet its contract. Each
+//!   function is proved, for every bit pattern, to give what a page of definitions says. This
+//!   crate is a thin layer over the archive and is not proved: it hands over operands, and turns
+//!   numbers into enums.
+//! - **No state.** No floating-point arithmetic, rounding mode, status word or heap: calls from
+//!   many threads do not meet.
+//!
+//! # Where to look
+//!
+//! | Operands | Functions |
+//! |---|---|
+//! | `f32` | [`remainder_f32`], [`scale_f32`], [`split_f32`] |
+//! | `f64` | [`remainder_f64`], [`scale_f64`], [`split_f64`], [`fold_f64`] |
+//! | patterns of IEEE 754's interchange formats | [`binary16`], [`binary32`], [`binary64`] |
+//! | patterns of the 80-bit x87 format | [`x87`], on operands of type [`X87`] |
+//!
+//! # The remainder
+//!
+//! The remainder of `x` by `y` is `x - Q * y`, where the magnitude of `Q` is that of `x / y`, cut
+//! or rounded to a whole number as the [`Kind`] says, and its sign is that of `x / y`. A zero
+//! result has the sign of `x`. By an infinite `y` a finite `x` is returned as it is, with
+//! quotient bits 0. Quotient bits are the quotient's magnitude modulo 8.
+//!
+//! # The numbers
+//!
+//! Every call ends in one of ten numbers. 0, 1 and 7 are answers, the rest refusals:
+//!
+//! | Number | Here | Given when |
+//! |---|---|---|
+//! | 0 | [`Answer::Finished`] | the result is there |
+//! | 1 | [`Answer::Partial`] | a step was partial |
+//! | 2 | [`Refusal::Unsupported`] | an x87 operand is unsupported |
+//! | 3 | [`Refusal::Nan`] | an operand is NaN |
+//! | 4 | [`Refusal::Infinite`] | the dividend is infinite, or an infinity is split |
+//! | 5 | [`Refusal::ZeroDivisor`] | the divisor is zero |
+//! | 6 | [`Refusal::BadSize`] | a step size outside 32 to 63 |
+//! | 7 | [`Answer::Spent`] | a run's budget is spent |
+//! | 8 | [`Refusal::ZeroSplit`] | a zero is split |
+//! | 9 | [`Refusal::BadLength`] | lists of unequal length, or a block that is not 16 bytes |
+//!
+//! Where several refusals apply, the first of 9, 6, 2, 3, 4, 5, 8 is given.
+//!
+//! No operand makes a function panic. One thing does: an archive of another version than this
+//! crate, if it returns a number that this version never returns.
+//!
+//! # The archive
+//!
+//! The archive is for x86-64 Linux and needs no other library, not even C's. The build script
+//! looks for `libzukemoriha.a`
+//!
+//! 1. in the folder that the environment variable `ZUKEMORIHA_LIB_DIR` names; if it is set, there
+//!    alone;
+//! 2. in `target` of the repository that this crate lies in, where `make archive` puts it;
+//! 3. in the folder that `pkg-config --variable=libdir zukemoriha` prints, after `make install`.
+//!
+//! # Without the standard library
+//!
+//! The crate is `no_std`, has no dependency and allocates nothing. The feature `std`, off by
+//! default, implements `std::error::Error` for [`Refusal`].
+
+#![no_std]
+#![deny(missing_docs)]
+#![warn(clippy::undocumented_unsafe_blocks)]
+
+#[cfg(feature = "std")]
+extern crate std;
+
+mod answers;
+mod floats;
+mod interchange;
+mod numbers;
+mod operand;
+mod raw;
+
+pub mod binary16;
+pub mod binary32;
+pub mod binary64;
+pub mod x87;
+
+pub use answers::{Block, Remainder, Scaled, Split};
+pub use floats::{
+    fold_f64, remainder_f32, remainder_f64, scale_f32, scale_f64, split_f32, split_f64,
+};
+pub use numbers::{Answer, Kind, Refusal, Rounding};
+pub use operand::X87;
+
+// The program of the README is compiled and run with the other examples.
+#[cfg(doctest)]
+#[doc = include_str!("../README.md")]
+struct Readme;

@@ -1,0 +1,65 @@
+//! The 80-bit operand of x87, which Rust has no type for.
+
+/// The pattern of an 80-bit x87 number: a significand whose leading bit is explicit, and a word
+/// of sign and exponent.
+///
+/// With `e` the lower 15 bits of the word and `J` the top bit of the significand, the supported
+/// patterns are
+///
+/// | `e` | `J` | |
+/// |---|---|---|
+/// | 0 | 0 | zeros and denormals: significand × 2^-16445 |
+/// | 1 to 32766 | 1 | normal numbers: significand × 2^(e - 16446) |
+/// | 32767 | 1 | infinities (the other 63 bits are 0) and NaNs |
+///
+/// All others are unsupported, `e` = 0 with `J` = 1 among them. Functions take them as they take
+/// every pattern, and refuse them with [`Refusal::Unsupported`](crate::Refusal::Unsupported).
+///
+/// Equality is that of the bits: the two zeros are different patterns.
+///
+/// ```
+/// use zukemoriha::X87;
+///
+/// let three = X87 { significand: 3 << 62, word: 0x4000 };
+/// assert_eq!(three.to_bytes(), [0, 0, 0, 0, 0, 0, 0, 0xC0, 0x00, 0x40]);
+/// ```
+#[derive(Clone, Copy, Debug, PartialEq, Eq, Hash)]
+pub struct X87 {
+    /// The significand, its leading bit on top.
+    pub significand: u64,
+    /// The sign, on top, and 15 bits of exponent.
+    pub word: u16,
+}
+
+impl X87 {
+    /// The operand in ten bytes of memory, as FSTP writes them and FLD reads them:
+    /// little-endian, the significand first.
+    ///
+    /// ```
+    /// use zukemoriha::X87;
+    ///
+    /// let one = X87::from_bytes([0, 0, 0, 0, 0, 0, 0, 0x80, 0xFF, 0x3F]);
+    /// assert_eq!(one, X87 { significand: 1 << 63, word: 0x3FFF });
+    /// ```
+    pub const fn from_bytes(bytes: [u8; 10]) -> X87 {
+        let [a, b, c, d, e, f, g, h, low, high] = bytes;
+        X87 {
+            significand: u64::from_le_bytes([a, b, c, d, e, f, g, h]),
+            word: u16::from_le_bytes([low, high]),
+        }
+    }
+
+    /// The ten bytes that [`from_bytes`](X87::from_bytes) reads.
+    ///
+    /// ```
+    /// use zukemoriha::X87;
+    ///
+    /// let minus_two = X87 { significand: 1 << 63, word: 0xC000 };
+    /// assert_eq!(minus_two.to_bytes(), [0, 0, 0, 0, 0, 0, 0, 0x80, 0x00, 0xC0]);
+    /// ```
+    pub const fn to_bytes(self) -> [u8; 10] {
+        let [a, b, c, d, e, f, g, h] = self.significand.to_le_bytes();
+        let [low, high] = self.word.to_le_bytes();
+        [a, b, c, d, e, f, g, h, low, high]
+    }
+}

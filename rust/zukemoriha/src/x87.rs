@@ -1,0 +1,332 @@
+//! The 80-bit format of x87: an operand is an [`X87`]. Beside the remainder in one call there are
+//! the processor's steps.
+//!
+//! # Steps
+//!
+//! FPREM and FPREM1 bring a dividend down to its remainder in steps, by a size `n` that the
+//! manuals leave to the processor; here it is the caller's, from 32 to 63 ([`SIZES`]).
+//! `D` is the exponent of `x` less that of `y`, and 0 for a zero `x`.
+//!
+//! - If `D` is below 64, the step finishes with the remainder and its quotient bits.
+//! - Otherwise it is partial. `QQ` is the magnitude of `x / y / 2^(D - n)`, cut in both kinds.
+//!   The quotient part `QQ * 2^(D - n)`, with the sign of `x / y`, times `y` is taken from `x`,
+//!   and the quotient bits are the part's magnitude modulo 8. A zero partial value is still
+//!   partial: the next step finishes.
+//!
+//! Steps of one kind and of any sizes, taken until one finishes, end in what [`remainder`] gives,
+//! and their quotient bits add up, modulo 8, to its quotient bits. There are at most `D / 32` of
+//! them, rounded down, and one if `D` is below 64.
+
+use core::ops::RangeInclusive;
+
+use crate::numbers::{finished, other_version, told};
+use crate::{raw, Answer, Block, Kind, Refusal, Remainder, Rounding, Scaled, Split, X87};
+
+/// The sizes that a step or a run takes.
+pub const SIZES: RangeInclusive<u32> = 32..=63;
+
+/// The remainder of `x` by `y`, exact, with three bits of the quotient.
+///
+/// A zero result has the sign of `x`. By an infinite `y` a finite `x` is returned as it is, with
+/// quotient bits 0.
+///
+/// # Errors
+///
+/// The first of these that applies:
+///
+/// - [`Refusal::Unsupported`]: an operand is unsupported
+/// - [`Refusal::Nan`]: an operand is NaN
+/// - [`Refusal::Infinite`]: `x` is infinite
+/// - [`Refusal::ZeroDivisor`]: `y` is zero
+///
+/// # Examples
+///
+/// ```
+/// use zukemoriha::{x87, Kind, X87};
+///
+/// let two_to_65 = X87 { significand: 1 << 63, word: 0x3FFF + 65 };
+/// let three = X87 { significand: 3 << 62, word: 0x4000 };
+///
+/// let left = x87::remainder(two_to_65, three, Kind::Truncated)?;
+/// assert_eq!(left.value, X87 { significand: 1 << 63, word: 0x4000 }); // 2
+/// assert_eq!(left.quotient, 2);
+/// # Ok::<(), zukemoriha::Refusal>(())
+/// ```
+pub fn remainder(x: X87, y: X87, kind: Kind) -> Result<Remainder<X87>, Refusal> {
+    let (mut significand, mut word, mut quotient) = (0, 0, 0);
+    // SAFETY: the three pointers are to places of their own, of the types that are written.
+    let number = unsafe {
+        raw::zk_rem80(
+            x.significand,
+            x.word,
+            y.significand,
+            y.word,
+            kind as u32,
+            &mut significand,
+            &mut word,
+            &mut quotient,
+        )
+    };
+    finished(number)?;
+    let value = X87 { significand, word };
+    Ok(Remainder { value, quotient })
+}
+
+/// `x` times two to the `power`, rounded once, ties to even.
+///
+/// An exponent above the format's largest gives infinity, and only bits below the smallest
+/// denormal are rounded away. Zeros and infinities return themselves, exact.
+///
+/// # Errors
+///
+/// - [`Refusal::Unsupported`]: `x` is unsupported
+/// - [`Refusal::Nan`]: `x` is NaN
+///
+/// # Examples
+///
+/// ```
+/// use zukemoriha::{x87, Rounding, X87};
+///
+/// let three = X87 { significand: 3 << 62, word: 0x4000 };
+/// let twelve = x87::scale(three, 2)?;
+/// assert_eq!(twelve.value, X87 { significand: 3 << 62, word: 0x4002 });
+/// assert_eq!(twelve.rounding, Rounding::Exact);
+/// # Ok::<(), zukemoriha::Refusal>(())
+/// ```
+pub fn scale(x: X87, power: i32) -> Result<Scaled<X87>, Refusal> {
+    let (mut significand, mut word, mut says) = (0, 0, 0);
+    // SAFETY: the three pointers are to places of their own, of the types that are written.
+    let number = unsafe {
+        raw::zk_scale80(
+            x.significand,
+            x.word,
+            power,
+            &mut significand,
+            &mut word,
+            &mut says,
+        )
+    };
+    finished(number)?;
+    let value = X87 { significand, word };
+    let rounding = Rounding::of_number(says);
+    Ok(Scaled { value, rounding })
+}
+
+/// Splits `x` into a significand, its magnitude from 1 to below 2 and its sign that of `x`, and
+/// the exponent of its leading one.
+///
+/// Scaling the significand by the exponent gives the pattern `x` back, exact.
+///
+/// # Errors
+///
+/// - [`Refusal::Unsupported`]: `x` is unsupported
+/// - [`Refusal::Nan`]: `x` is NaN
+/// - [`Refusal::Infinite`]: `x` is infinite
+/// - [`Refusal::ZeroSplit`]: `x` is zero
+///
+/// # Examples
+///
+/// ```
+/// use zukemoriha::{x87, X87};
+///
+/// // The smallest denormal is 1 times 2^-16445.
+/// let split = x87::split(X87 { significand: 1, word: 0 })?;
+/// assert_eq!(split.significand, X87 { significand: 1 << 63, word: 0x3FFF });
+/// assert_eq!(split.exponent, -16445);
+/// # Ok::<(), zukemoriha::Refusal>(())
+/// ```
+pub fn split(x: X87) -> Result<Split<X87>, Refusal> {
+    let (mut significand, mut word, mut exponent) = (0, 0, 0);
+    // SAFETY: the three pointers are to places of their own, of the types that are written.
+    let number = unsafe {
+        raw::zk_split80(
+            x.significand,
+            x.word,
+            &mut significand,
+            &mut word,
+            &mut exponent,
+        )
+    };
+    finished(number)?;
+    let significand = X87 { significand, word };
+    Ok(Split {
+        significand,
+        exponent,
+    })
+}
+
+/// One [step](self#steps), as FPREM or FPREM1 makes it.
+///
+/// The answer is [`Finished`](Answer::Finished) or [`Partial`](Answer::Partial).
+///
+/// # Errors
+///
+/// The first of these that applies:
+///
+/// - [`Refusal::BadSize`]: `size` is not one of [`SIZES`]
+/// - [`Refusal::Unsupported`]: an operand is unsupported
+/// - [`Refusal::Nan`]: an operand is NaN
+/// - [`Refusal::Infinite`]: `x` is infinite
+/// - [`Refusal::ZeroDivisor`]: `y` is zero
+///
+/// # Examples
+///
+/// A loop of steps. The octant is in the sum of the quotient bits, not in the last step's alone.
+///
+/// ```
+/// use zukemoriha::{x87, Answer, Kind, X87};
+///
+/// let mut x = X87 { significand: 1 << 63, word: 0x3FFF + 65 }; // 2^65
+/// let three = X87 { significand: 3 << 62, word: 0x4000 };
+///
+/// let (mut octant, mut steps) = (0, 0);
+/// loop {
+///     let step = x87::step(x, three, 63, Kind::Truncated)?;
+///     x = step.value;
+///     octant = (octant + step.quotient) % 8;
+///     steps += step.steps;
+///     if step.answer == Answer::Finished {
+///         assert_eq!(step.quotient, 0);
+///         break;
+///     }
+/// }
+/// assert_eq!(x, X87 { significand: 1 << 63, word: 0x4000 }); // 2
+/// assert_eq!((octant, steps), (2, 2));
+/// # Ok::<(), zukemoriha::Refusal>(())
+/// ```
+pub fn step(x: X87, y: X87, size: u32, kind: Kind) -> Result<Block, Refusal> {
+    let mut bytes = [0; Block::LENGTH];
+    step_into(x, y, size, kind, &mut bytes)?;
+    Ok(written(&bytes))
+}
+
+/// [Steps](self#steps) of one size, until one finishes or the budget is spent.
+///
+/// The answer is [`Finished`](Answer::Finished) or [`Spent`](Answer::Spent). A run that has spent
+/// its budget may be continued from its value: steps and quotient bits are then to be added, the
+/// bits modulo 8.
+///
+/// # Errors
+///
+/// Those of [`step`].
+///
+/// # Examples
+///
+/// ```
+/// use zukemoriha::{x87, Answer, Kind, X87};
+///
+/// let two_to_65 = X87 { significand: 1 << 63, word: 0x3FFF + 65 };
+/// let three = X87 { significand: 3 << 62, word: 0x4000 };
+///
+/// let run = x87::run(two_to_65, three, 63, Kind::Truncated, 1)?;
+/// assert_eq!((run.answer, run.steps, run.quotient), (Answer::Spent, 1, 2));
+///
+/// let rest = x87::run(run.value, three, 63, Kind::Truncated, u32::MAX)?;
+/// assert_eq!((rest.answer, rest.steps, rest.quotient), (Answer::Finished, 1, 0));
+/// assert_eq!(rest.value, X87 { significand: 1 << 63, word: 0x4000 }); // 2
+/// # Ok::<(), zukemoriha::Refusal>(())
+/// ```
+pub fn run(x: X87, y: X87, size: u32, kind: Kind, budget: u32) -> Result<Block, Refusal> {
+    let mut bytes = [0; Block::LENGTH];
+    run_into(x, y, size, kind, budget, &mut bytes)?;
+    Ok(written(&bytes))
+}
+
+/// [`step`] into a lent block, as a host in C has it: the [16 bytes](Block) are written as they
+/// are, and the answer is returned too.
+///
+/// # Errors
+///
+/// [`Refusal::BadLength`] if the slice is not [`Block::LENGTH`] bytes long, then those of
+/// [`step`]. A refusal leaves the slice as it was.
+///
+/// # Examples
+///
+/// ```
+/// use zukemoriha::{x87, Answer, Block, Kind, Refusal, X87};
+///
+/// let two_to_65 = X87 { significand: 1 << 63, word: 0x3FFF + 65 };
+/// let three = X87 { significand: 3 << 62, word: 0x4000 };
+/// let mut block = [0; Block::LENGTH];
+///
+/// let answer = x87::step_into(two_to_65, three, 63, Kind::Truncated, &mut block)?;
+/// assert_eq!(answer, Answer::Partial);
+/// assert_eq!(block, [0, 0, 0, 0, 0, 0, 0, 0x80, 0x00, 0x40, 1, 2, 1, 0, 0, 0]);
+///
+/// let refused = x87::step_into(two_to_65, three, 63, Kind::Truncated, &mut block[1..]);
+/// assert_eq!(refused, Err(Refusal::BadLength));
+/// # Ok::<(), zukemoriha::Refusal>(())
+/// ```
+pub fn step_into(
+    x: X87,
+    y: X87,
+    size: u32,
+    kind: Kind,
+    block: &mut [u8],
+) -> Result<Answer, Refusal> {
+    // SAFETY: the slice is lent with its own length; its pointer is not null, also where it is
+    // empty.
+    told(unsafe {
+        raw::zk_step80(
+            x.significand,
+            x.word,
+            y.significand,
+            y.word,
+            size,
+            kind as u32,
+            block.as_mut_ptr(),
+            block.len(),
+        )
+    })
+}
+
+/// [`run`] into a lent block, as [`step_into`] is for [`step`].
+///
+/// # Errors
+///
+/// [`Refusal::BadLength`] if the slice is not [`Block::LENGTH`] bytes long, then those of
+/// [`step`]. A refusal leaves the slice as it was.
+///
+/// # Examples
+///
+/// ```
+/// use zukemoriha::{x87, Answer, Block, Kind, X87};
+///
+/// let two_to_65 = X87 { significand: 1 << 63, word: 0x3FFF + 65 };
+/// let three = X87 { significand: 3 << 62, word: 0x4000 };
+/// let mut block = [0; Block::LENGTH];
+///
+/// let answer = x87::run_into(two_to_65, three, 63, Kind::Truncated, 10, &mut block)?;
+/// assert_eq!(answer, Answer::Finished);
+/// assert_eq!(block, [0, 0, 0, 0, 0, 0, 0, 0x80, 0x00, 0x40, 0, 2, 2, 0, 0, 0]);
+/// # Ok::<(), zukemoriha::Refusal>(())
+/// ```
+pub fn run_into(
+    x: X87,
+    y: X87,
+    size: u32,
+    kind: Kind,
+    budget: u32,
+    block: &mut [u8],
+) -> Result<Answer, Refusal> {
+    // SAFETY: the slice is lent with its own length; its pointer is not null, also where it is
+    // empty.
+    told(unsafe {
+        raw::zk_run80(
+            x.significand,
+            x.word,
+            y.significand,
+            y.word,
+            size,
+            kind as u32,
+            budget,
+            block.as_mut_ptr(),
+            block.len(),
+        )
+    })
+}
+
+/// The block that an accepted call has written.
+fn written(bytes: &[u8; Block::LENGTH]) -> Block {
+    Block::from_bytes(bytes).unwrap_or_else(|| other_version())
+}

@@ -1,0 +1,255 @@
+//! What is handed over and what comes back: numbers of enums, bytes of operands and blocks, and
+//! the functions on f32 and f64 beside those on patterns.
+
+use std::arch::asm;
+
+use zukemoriha::*;
+
+const KINDS: [Kind; 2] = [Kind::Truncated, Kind::Nearest];
+
+/// Zeros, denormals, the ends of the normal numbers, small whole numbers, infinities, and quiet
+/// and signalling NaNs, of both signs.
+const PATTERNS_32: [u32; 18] = [
+    0x0000_0000,
+    0x8000_0000,
+    0x0000_0001,
+    0x8000_0003,
+    0x007F_FFFF,
+    0x0080_0000,
+    0x3F80_0000,
+    0xBF80_0000,
+    0x4000_0000,
+    0x4040_0000,
+    0xC0C0_0000,
+    0x40B0_0000,
+    0x7F7F_FFFF,
+    0x7F80_0000,
+    0xFF80_0000,
+    0x7FC0_0000,
+    0x7F80_0001,
+    0xFFFF_FFFF,
+];
+
+const PATTERNS_64: [u64; 18] = [
+    0x0000_0000_0000_0000,
+    0x8000_0000_0000_0000,
+    0x0000_0000_0000_0001,
+    0x8000_0000_0000_0003,
+    0x000F_FFFF_FFFF_FFFF,
+    0x0010_0000_0000_0000,
+    0x3FF0_0000_0000_0000,
+    0xBFF0_0000_0000_0000,
+    0x4000_0000_0000_0000,
+    0x4008_0000_0000_0000,
+    0xC018_0000_0000_0000,
+    0x4016_0000_0000_0000,
+    0x7FEF_FFFF_FFFF_FFFF,
+    0x7FF0_0000_0000_0000,
+    0xFFF0_0000_0000_0000,
+    0x7FF8_0000_0000_0000,
+    0x7FF0_0000_0000_0001,
+    0xFFFF_FFFF_FFFF_FFFF,
+];
+
+const POWERS: [i32; 7] = [0, 1, -1, 200, -2000, i32::MAX, i32::MIN];
+
+const fn number(significand: u64, word: u16) -> X87 {
+    X87 { significand, word }
+}
+
+#[test]
+fn enums_have_the_numbers_of_the_archive() {
+    assert_eq!(KINDS.map(|kind| kind as u32), [0, 1]);
+
+    let roundings = [Rounding::Exact, Rounding::Up, Rounding::Down];
+    assert_eq!(roundings.map(|rounding| rounding as u8), [0, 1, 2]);
+
+    let answers = [Answer::Finished, Answer::Partial, Answer::Spent];
+    assert_eq!(answers.map(Answer::number), [0, 1, 7]);
+
+    let refusals = [
+        Refusal::Unsupported,
+        Refusal::Nan,
+        Refusal::Infinite,
+        Refusal::ZeroDivisor,
+        Refusal::BadSize,
+        Refusal::ZeroSplit,
+        Refusal::BadLength,
+    ];
+    assert_eq!(refusals.map(Refusal::number), [2, 3, 4, 5, 6, 8, 9]);
+}
+
+#[test]
+#[cfg(feature = "std")]
+fn a_refusal_is_an_error() {
+    let error: Box<dyn std::error::Error> = Refusal::Nan.into();
+    assert_eq!(error.to_string(), "an operand is NaN");
+}
+
+#[test]
+fn x87_bytes_go_both_ways() {
+    let bytes = [1, 2, 3, 4, 5, 6, 7, 8, 9, 10];
+    let operand = number(0x0807_0605_0403_0201, 0x0A09);
+    assert_eq!(X87::from_bytes(bytes), operand);
+    assert_eq!(operand.to_bytes(), bytes);
+}
+
+#[test]
+fn x87_bytes_are_those_of_the_processor() {
+    for (float, operand) in [
+        (5.5, number(11 << 60, 0x4001)),
+        (-1.0, number(1 << 63, 0xBFFF)),
+    ] {
+        assert_eq!(X87::from_bytes(stored(float)), operand);
+        assert_eq!(operand.to_bytes(), stored(float));
+    }
+}
+
+/// The number as FSTP stores it in ten bytes.
+fn stored(x: f64) -> [u8; 10] {
+    let mut bytes = [0; 10];
+    // SAFETY: FLD reads eight bytes and FSTP writes ten, and leaves the register stack empty.
+    unsafe {
+        asm!(
+            "fld qword ptr [{x}]",
+            "fstp tbyte ptr [{bytes}]",
+            x = in(reg) &x as *const f64,
+            bytes = in(reg) bytes.as_mut_ptr(),
+            out("st(0)") _, out("st(1)") _, out("st(2)") _, out("st(3)") _,
+            out("st(4)") _, out("st(5)") _, out("st(6)") _, out("st(7)") _,
+            options(nostack),
+        );
+    }
+    bytes
+}
+
+#[test]
+fn a_block_is_read_if_its_number_is_an_answer() {
+    let block = |answer| Block {
+        value: number(0x0807_0605_0403_0201, 0x0A09),
+        answer,
+        quotient: 5,
+        steps: 0x0F0E_0D0C,
+    };
+    for number in 0..=u8::MAX {
+        let expected = match number {
+            0 => Some(block(Answer::Finished)),
+            1 => Some(block(Answer::Partial)),
+            7 => Some(block(Answer::Spent)),
+            _ => None,
+        };
+        let bytes = [1, 2, 3, 4, 5, 6, 7, 8, 9, 10, number, 5, 12, 13, 14, 15];
+        assert_eq!(Block::from_bytes(&bytes), expected);
+    }
+}
+
+#[test]
+fn f32_functions_are_those_on_patterns() {
+    for x in PATTERNS_32 {
+        let float = f32::from_bits(x);
+        for y in PATTERNS_32 {
+            for kind in KINDS {
+                assert_eq!(
+                    remainder_f32(float, f32::from_bits(y), kind)
+                        .map(|left| (left.value.to_bits(), left.quotient)),
+                    binary32::remainder(x, y, kind).map(|left| (left.value, left.quotient))
+                );
+            }
+        }
+        for power in POWERS {
+            assert_eq!(
+                scale_f32(float, power).map(|scaled| (scaled.value.to_bits(), scaled.rounding)),
+                binary32::scale(x, power).map(|scaled| (scaled.value, scaled.rounding))
+            );
+        }
+        assert_eq!(
+            split_f32(float).map(|split| (split.significand.to_bits(), split.exponent)),
+            binary32::split(x).map(|split| (split.significand, split.exponent))
+        );
+    }
+}
+
+#[test]
+fn f64_functions_are_those_on_patterns() {
+    for x in PATTERNS_64 {
+        let float = f64::from_bits(x);
+        for y in PATTERNS_64 {
+            for kind in KINDS {
+                assert_eq!(
+                    remainder_f64(float, f64::from_bits(y), kind)
+                        .map(|left| (left.value.to_bits(), left.quotient)),
+                    binary64::remainder(x, y, kind).map(|left| (left.value, left.quotient))
+                );
+            }
+        }
+        for power in POWERS {
+            assert_eq!(
+                scale_f64(float, power).map(|scaled| (scaled.value.to_bits(), scaled.rounding)),
+                binary64::scale(x, power).map(|scaled| (scaled.value, scaled.rounding))
+            );
+        }
+        assert_eq!(
+            split_f64(float).map(|split| (split.significand.to_bits(), split.exponent)),
+            binary64::split(x).map(|split| (split.significand, split.exponent))
+        );
+    }
+}
+
+#[test]
+fn a_truncated_remainder_is_that_of_the_language() {
+    for x in PATTERNS_64.map(f64::from_bits) {
+        for y in PATTERNS_64.map(f64::from_bits) {
+            match remainder_f64(x, y, Kind::Truncated) {
+                Ok(left) => assert_eq!(left.value.to_bits(), (x % y).to_bits()),
+                Err(_) => assert!((x % y).is_nan()),
+            }
+        }
+    }
+}
+
+#[test]
+fn nan_operands_are_refused() {
+    for pattern in [0x7FC0_0000, 0x7F80_0001, 0xFFFF_FFFF] {
+        let nan = f32::from_bits(pattern);
+        for kind in KINDS {
+            assert_eq!(remainder_f32(nan, 0.0, kind), Err(Refusal::Nan));
+            assert_eq!(remainder_f32(f32::INFINITY, nan, kind), Err(Refusal::Nan));
+        }
+        assert_eq!(scale_f32(nan, 1), Err(Refusal::Nan));
+        assert_eq!(split_f32(nan), Err(Refusal::Nan));
+    }
+    for pattern in [0x7FF8_0000_0000_0000, 0x7FF0_0000_0000_0001, u64::MAX] {
+        let nan = f64::from_bits(pattern);
+        for kind in KINDS {
+            assert_eq!(remainder_f64(nan, 0.0, kind), Err(Refusal::Nan));
+            assert_eq!(remainder_f64(f64::INFINITY, nan, kind), Err(Refusal::Nan));
+        }
+        assert_eq!(scale_f64(nan, 1), Err(Refusal::Nan));
+        assert_eq!(split_f64(nan), Err(Refusal::Nan));
+    }
+}
+
+#[test]
+fn a_zero_remainder_has_the_sign_of_the_dividend() {
+    // -6 by 3 and 6 by -3, in each format.
+    for kind in KINDS {
+        let value = |x, y| binary16::remainder(x, y, kind).unwrap().value;
+        assert_eq!(value(0xC600, 0x4200), 0x8000);
+        assert_eq!(value(0x4600, 0xC200), 0x0000);
+
+        let value = |x, y| remainder_f32(x, y, kind).unwrap().value.to_bits();
+        assert_eq!(value(-6.0, 3.0), (-0.0_f32).to_bits());
+        assert_eq!(value(6.0, -3.0), 0.0_f32.to_bits());
+
+        let value = |x, y| remainder_f64(x, y, kind).unwrap().value.to_bits();
+        assert_eq!(value(-6.0, 3.0), (-0.0_f64).to_bits());
+        assert_eq!(value(6.0, -3.0), 0.0_f64.to_bits());
+
+        let value = |xw, yw| {
+            let (x, y) = (number(3 << 62, xw), number(3 << 62, yw));
+            x87::remainder(x, y, kind).unwrap().value
+        };
+        assert_eq!(value(0xC001, 0x4000), number(0, 0x8000));
+        assert_eq!(value(0x4001, 0xC000), number(0, 0x0000));
+    }
+}
