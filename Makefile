@@ -33,7 +33,7 @@ parallel = $(MAKE) --no-print-directory -j$$(nproc) --output-sync=target
 headers = tests/calls.h tests/operands.h include/zukemoriha.h
 exported = sed -n 's/^[a-z0-9_]* \(zk_[a-z0-9_]*\)(.*/\1/p' include/zukemoriha.h
 # nothing comes from a registry
-cargo = env CARGO_TARGET_DIR=$(abspath $(out))/rust ZUKEMORIHA_LIB_DIR=$(abspath $(dir $(LIB))) $(CARGO)
+cargo = env -u MAKEFLAGS CARGO_TARGET_DIR=$(abspath $(out))/rust ZUKEMORIHA_LIB_DIR=$(abspath $(dir $(LIB))) $(CARGO)
 
 # ---- what README.md names
 
