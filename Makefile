@@ -49,7 +49,7 @@ run: ## prove and build the line program, and run it on its sample (a minute)
 # rt ci proves all from nothing; the archive is built of what it has proved; its verdict is held back until the tests have passed too
 test: tools ## the gate: every proof, every edit that must be refused, every test; ends in 'N passed, 0 failed'
 	rt fmt --check
-	rt ci | awk -f tests/held.awk || { cat target/verdict; exit 1; }
+	rt ci | sh tests/held.sh || { cat target/verdict; exit 1; }
 	$(parallel) tests
 	@cat target/verdict
 
