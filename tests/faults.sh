@@ -6,6 +6,7 @@ set -eu
 folder=${1:?usage: faults.sh FOLDER CARGO}
 cargo=${2:?usage: faults.sh FOLDER CARGO}
 programs='untouched chains fold ldexp libm half fprem'
+comparisons='--test folds --test half --test lists --test published --test readings --test sequence --test vectors'
 # what a refusal writes into a single lent number stays inside the safe Rust functions
 c_only='rem64-refusal-writes scale80-refusal-writes fold-refusal-writes'
 
@@ -20,10 +21,10 @@ by_c() {
 }
 
 by_rust() {
-    if (cd rust && FAULT=$1 $cargo test --release --offline --tests) > "$folder/log" 2>&1; then
+    if (cd rust && FAULT=$1 $cargo test --release --offline -p compare $comparisons) > "$folder/log" 2>&1; then
         echo nobody
     else
-        sed -n 's/.*rerun pass .*--\(test\|bin\) \([a-z_]*\).*/\2/p; s/.*rerun pass .*--lib.*/lib/p' "$folder/log" | head -n 1
+        sed -n 's/.*rerun pass .*--test \([a-z_]*\).*/\1/p; $s/.*/nobody/p' "$folder/log" | head -n 1
     fi
 }
 

@@ -1,5 +1,5 @@
-// The fold of a list of binary64 patterns.
-use interface::numbers::kind_of;
+// The export of the fold of a list of binary64 patterns.
+use interface::kind_of;
 use lists::fold64;
 ghost use mathlib.Core.Path.{_≡_};
 ghost use Rattle.definitions.specs.Fold.{foldList};

@@ -1,8 +1,8 @@
-// The remainder in one call, for each format.
+// The exports of the remainder in one call, a function a format.
 use definitions::Extended;
 use definitions::RemainderAnswer;
 use definitions::RemainderAnswer80;
-use interface::numbers::kind_of;
+use interface::kind_of;
 use remainder::patterns::remainder16;
 use remainder::patterns::remainder32;
 use remainder::patterns::remainder64;

@@ -2,7 +2,7 @@
 use definitions::Extended;
 use definitions::ScaleAnswer;
 use definitions::ScaleAnswer80;
-use interface::numbers::says_number;
+use interface::says_number;
 use remainder::refusal::refusal_number;
 use scaling::scale::scale16;
 use scaling::scale::scale32;

@@ -1,9 +1,9 @@
-// The step and the run, on numbers and a lent block of 16 bytes for the answer.
+// The exports of the step and the run, on numbers and a lent block of 16 bytes for the answer.
 use block::fill;
 use definitions::Extended;
 use definitions::RunAnswer;
 use definitions::StepAnswer;
-use interface::numbers::kind_of;
+use interface::kind_of;
 use remainder::refusal::refusal_number;
 use steps::run::run80;
 use steps::step::step80;

@@ -1,7 +1,7 @@
 -- `kind_of` meets its contract: its test is the definition's. Assumes nothing.
 use borrow.Author.Tests.{eq-eqb, ne-eqb}
-use Rattle.interface.proofs.numbers.kind_of.Statement.{statement}
-use Rattle.interface.proofs.numbers.kind_of.Tie as tie
+use Rattle.interface.proofs.kind_of.Statement.{statement}
+use Rattle.interface.proofs.kind_of.Tie as tie
 
 returns : tie.Need-returns
 returns c = simp (eq-eqb _ _ (c .if1 .taken))
