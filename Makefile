@@ -33,18 +33,19 @@ parallel = $(MAKE) --no-print-directory -j$$(nproc) --output-sync=target
 headers = tests/calls.h tests/operands.h include/zukemoriha.h
 exported = sed -n 's/^[a-z0-9_]* \(zk_[a-z0-9_]*\)(.*/\1/p' include/zukemoriha.h
 # nothing comes from a registry
-cargo = env -u MAKEFLAGS CARGO_TARGET_DIR=$(abspath $(out))/rust ZUKEMORIHA_LIB_DIR=$(abspath $(dir $(LIB))) $(CARGO)
+cargo = env -u MAKEFLAGS -u MFLAGS CARGO_TARGET_DIR=$(abspath $(out))/rust ZUKEMORIHA_LIB_DIR=$(abspath $(dir $(LIB))) $(CARGO)
 
 # ---- what README.md names
 
-.PHONY: help run test check check-long check-faults bench times archive install uninstall clean
+.PHONY: help run test check tests check-long check-faults bench times archive install uninstall clean
 
 help: ## this list
 	@sed -n 's/^\([a-z-]*\):.*## \(.*\)/  make \1\t\2/p' $(firstword $(MAKEFILE_LIST)) | expand -t 22
 
 run: ## prove and build the line program, and run it on its sample (a minute)
 	rt check remainder_lines
-	target/bin/remainder_lines < examples/lines.in
+	target/bin/remainder_lines < examples/lines.in | tee target/lines.out
+	@diff examples/lines.out target/lines.out
 
 # rt ci proves all from nothing; the archive is built of what it has proved; its verdict is held back until the tests have passed too
 test: tools ## the gate: every proof, every edit that must be refused, every test; ends in 'N passed, 0 failed'
@@ -53,11 +54,14 @@ test: tools ## the gate: every proof, every edit that must be refused, every tes
 	$(parallel) tests
 	@cat target/verdict
 
-check: tools ## what has changed is proved, then the tests from outside (minutes)
+check: tools ## what has changed is proved, then the tests (minutes)
 	rt check
 	$(parallel) tests
+	@echo 'every crate proved, every test passed'
 
-check-long: long-half $(addprefix long-,chains fprem libm ldexp libm-musl ldexp-musl mpfr) ## ten million cases a format, musl, MPFR, all pairs of binary16 (an hour)
+tests: header documents examples install-check rust $(addprefix test-,$(programs)) ## the tests alone, on the archive of what is proved
+
+check-long: peers long-half $(addprefix long-,chains fprem libm ldexp libm-musl ldexp-musl mpfr) ## ten million cases a format, musl, MPFR, all pairs of binary16 (an hour; cases=N seed=N for others)
 
 check-faults: $(faults)/libzukemoriha.a ## the tests on a library with one fault at a time: each has to be noticed
 	$(MAKE) --no-print-directory out=$(faults) LIB=$< noticed
@@ -65,6 +69,7 @@ check-faults: $(faults)/libzukemoriha.a ## the tests on a library with one fault
 bench: bench-calls bench-lines ## times, ratios and instructions of calls, then the line program
 
 times: ## the seconds of each crate and each edit in the last `make test`
+	@test -f target/ci.log || { echo 'there are no times yet: run make test first'; exit 1; }
 	@awk -f tests/times.awk target/ci.log
 
 archive: target/libzukemoriha.a ## prove and build the library that a host links, target/libzukemoriha.a
@@ -80,28 +85,33 @@ install: $(LIB) ## to prefix (/usr/local), libdir, includedir, below DESTDIR
 uninstall: ## what install has put there
 	rm -f $(DESTDIR)$(libdir)/libzukemoriha.a $(DESTDIR)$(includedir)/zukemoriha.h $(DESTDIR)$(pkgconfigdir)/zukemoriha.pc
 
-clean: ## remove target/, which holds all that is made
-	rm -rf target
+clean: ## remove all that is made
+	rm -rf target rust/target
 
 # ---- what the commands need beyond the kit: Debian's packages, where something is missing
 
-.PHONY: tools peers meters
+.PHONY: joiner tools peers meters
 
-debian = { apt-get update && apt-get install -y $(1); }
+# $(call need,COMMANDS,PACKAGES)
+need = @missing=$$(for name in $(1); do command -v $$name > /dev/null || echo $$name; done); \
+	[ -z "$$missing" ] || { echo missing: $$missing; apt-get update && apt-get install -y $(2); }
 
-tools:
-	@which $(CC) $(CXX) ar pkg-config $(CARGO) $(RUSTC) > /dev/null || $(call debian,gcc g++ libc6-dev binutils pkg-config cargo rustc)
+joiner:
+	$(call need,ar,binutils)
+
+tools: joiner
+	$(call need,$(CC) $(CXX) pkg-config $(CARGO) $(RUSTC),gcc g++ libc6-dev pkg-config cargo rustc)
 
 peers:
-	@which musl-gcc > /dev/null && test -f /usr/include/mpfr.h || $(call debian,musl-tools libmpfr-dev)
+	$(call need,musl-gcc $(if $(wildcard /usr/include/mpfr.h),,mpfr.h),musl-tools libmpfr-dev)
 
 meters:
-	@which valgrind > /dev/null || $(call debian,valgrind)
+	$(call need,valgrind,valgrind)
 
 # ---- the archive
 
 # rt proves again what has changed, and compiles each crate of exports; ar joins their objects
-target/libzukemoriha.a: $(shell find crates -name '*.rt' -o -name '*.antt') crates.txt | tools
+target/libzukemoriha.a: $(shell find crates -name '*.rt' -o -name '*.antt') crates.txt | joiner
 	rt check $(exports)
 	for crate in $(exports); do rt staticlib $$crate; done
 	rm -f $@
@@ -120,9 +130,7 @@ always:
 
 # ---- tests from outside
 
-.PHONY: tests header examples install-check rust $(addprefix test-,$(programs))
-
-tests: header examples install-check rust $(addprefix test-,$(programs))
+.PHONY: header documents examples install-check rust $(addprefix test-,$(programs))
 
 # it compiles, and names what the archive exports, no more and no less
 header: $(out)/archive.sum
@@ -148,6 +156,11 @@ install-check: $(out)/archive.sum
 
 rust: $(out)/archive.sum
 	cd rust && $(cargo) test --release --offline
+	cd rust && RUSTDOCFLAGS='-D warnings' $(cargo) doc --no-deps --offline --quiet
+
+# the impostors that PROOF.md lists are those that there are, and the files that the documents name exist
+documents:
+	sh tests/documents.sh
 
 $(out)/%: tests/%.c $(headers) $(out)/archive.sum
 	$(CC) $(cflags) $(unbuilt) -Itests $< $(LIB) -lm -o $@

@@ -210,7 +210,7 @@ static inline struct reply call_split(int f, struct pattern x) {
 
 /* Whether a loop over `all` cases goes on. On a terminal it shows how far it is. */
 static inline int going(uint64_t done, uint64_t all) {
-    int shown = (done % 4096 == 0 || done == all) && isatty(STDERR_FILENO);
+    int shown = (done % (all / 100 + 1) == 0 || done == all) && isatty(STDERR_FILENO);
     if (shown && done < all)
         fprintf(stderr, "\r%3u%%", (unsigned)(100 * done / all));
     if (shown && done == all)

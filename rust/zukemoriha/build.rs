@@ -14,7 +14,7 @@ fn main() {
     for variable in [VARIABLE, "PKG_CONFIG_PATH", "PKG_CONFIG_LIBDIR"] {
         println!("cargo:rerun-if-env-changed={variable}");
     }
-    match find() {
+    match supported().and_then(|()| find()) {
         Ok(folder) => link(&folder),
         Err(message) => {
             eprintln!("{message}");
@@ -29,11 +29,24 @@ fn link(folder: &Path) {
     println!("cargo:rustc-link-lib=static=zukemoriha");
 }
 
+/// The archive has code of one kind of machine.
+fn supported() -> Result<(), String> {
+    let target = env::var("TARGET").unwrap_or_default();
+    if target.starts_with("x86_64-") && target.contains("-linux-") {
+        Ok(())
+    } else {
+        Err(format!("{ARCHIVE} is for x86-64 Linux, and not for {target}"))
+    }
+}
+
 fn find() -> Result<PathBuf, String> {
     // A folder that the user names is never passed over for another one.
     if let Some(folder) = env::var_os(VARIABLE).filter(|folder| !folder.is_empty()) {
         let folder = PathBuf::from(folder);
-        let message = format!("{VARIABLE} is {}, which has no {ARCHIVE}", folder.display());
+        let message = format!(
+            "{VARIABLE} is {}, which has no {ARCHIVE}; it is to be a full path",
+            folder.display()
+        );
         return holding(folder).ok_or(message);
     }
     in_repository().or_else(installed).ok_or_else(|| {

@@ -20,7 +20,7 @@
 //!   operands are. Only scaling rounds: once, ties to even.
 //! - **Proved.** The archive that does the work is written in Rattle, a systems language like
 //!   Rust in which a function is compiled only once it is proved to meet its contract. Each
-//!   function is proved, for every bit pattern, to give what a page of definitions says. This
+//!   function is proved, for every bit pattern, to give what its definition says. This
 //!   crate is a thin layer over the archive and is not proved: it hands over operands, and turns
 //!   numbers into enums.
 //! - **No state.** No floating-point arithmetic, rounding mode, status word or heap: calls from
@@ -69,8 +69,8 @@
 //! The archive is for x86-64 Linux and needs no other library, not even C's. The build script
 //! looks for `libzukemoriha.a`
 //!
-//! 1. in the folder that the environment variable `ZUKEMORIHA_LIB_DIR` names; if it is set, there
-//!    alone;
+//! 1. in the folder that the environment variable `ZUKEMORIHA_LIB_DIR` names, a full path; if it
+//!    is set, there alone;
 //! 2. in `target` of the repository that this crate lies in, where `make archive` puts it;
 //! 3. in the folder that `pkg-config --variable=libdir zukemoriha` prints, after `make install`.
 //!
