@@ -35,7 +35,9 @@ fn supported() -> Result<(), String> {
     if target.starts_with("x86_64-") && target.contains("-linux-") {
         Ok(())
     } else {
-        Err(format!("{ARCHIVE} is for x86-64 Linux, and not for {target}"))
+        Err(format!(
+            "{ARCHIVE} is for x86-64 Linux, and not for {target}"
+        ))
     }
 }
 
