@@ -32,8 +32,8 @@ unbuilt = $(foreach n,fmod remainder remquo ldexp frexp,-fno-builtin-$(n) -fno-b
 parallel = $(MAKE) --no-print-directory -j$$(nproc) --output-sync=target
 headers = tests/calls.h tests/operands.h include/zukemoriha.h
 exported = sed -n 's/^[a-z0-9_]* \(zk_[a-z0-9_]*\)(.*/\1/p' include/zukemoriha.h
-# nothing comes from a registry
-cargo = env -u MAKEFLAGS -u MFLAGS CARGO_TARGET_DIR=$(abspath $(out))/rust ZUKEMORIHA_LIB_DIR=$(abspath $(dir $(LIB))) $(CARGO)
+# Run in rust/: nothing comes from a registry. The crate looks for the archive from its own folder.
+cargo = env -u MAKEFLAGS -u MFLAGS CARGO_TARGET_DIR=../$(out)/rust ZUKEMORIHA_LIB_DIR=$(if $(filter /%,$(LIB)),,../../)$(dir $(LIB)) $(CARGO)
 
 # ---- what README.md names
 

@@ -46,7 +46,7 @@ fn find() -> Result<PathBuf, String> {
     if let Some(folder) = env::var_os(VARIABLE).filter(|folder| !folder.is_empty()) {
         let folder = PathBuf::from(folder);
         let message = format!(
-            "{VARIABLE} is {}, which has no {ARCHIVE}; it is to be a full path",
+            "{VARIABLE} is {}, which has no {ARCHIVE}; a full path is safest",
             folder.display()
         );
         return holding(folder).ok_or(message);

@@ -49,6 +49,27 @@ impl Implementation for Altered {
     }
 }
 
+/// The library, with a size that is refused told as a NaN. The sums of a list do not show it.
+struct Misnumbered;
+
+impl Implementation for Misnumbered {
+    fn name(&self) -> &'static str {
+        "misnumbered"
+    }
+
+    fn answer(&self, call: &Call) -> Answer {
+        let mut answer = Library.answer(call);
+        if answer.number == 6 {
+            answer.number = 3;
+        }
+        answer
+    }
+
+    fn fold(&self, kind: Kind, dividends: &[u64], divisor: u64) -> Result<Folded, u8> {
+        Library.fold(kind, dividends, divisor)
+    }
+}
+
 /// The differences in a file.
 fn in_file(pair: Pair, path: &str, text: &str) -> u64 {
     let name = path.rsplit('/').next().unwrap();
@@ -142,12 +163,30 @@ fn one_wrong_field_of_a_file_is_noticed() {
         ("computed/fold-binary64.txt", 0, 2..4),
         ("computed/fold-binary64.txt", 1, 1..3),
         ("published/published-gcc.txt", 1, 4..6),
+        ("published/published-golang.txt", 124, 4..6),
     ] {
         for field in fields {
             let text = altered_text(&read(path), line, field);
             assert!(in_file(PAIR, path, &text) > 0, "{path}, field {field}");
         }
     }
+}
+
+#[test]
+fn a_wrong_refusal_is_noticed() {
+    for path in [FILES[1], FILES[2], FILES[5]] {
+        let different = in_file([&Misnumbered, &Second], path, &read(path));
+        assert!(different > 0, "{path}");
+    }
+}
+
+/// A published case that prints a NaN where there is a number.
+#[test]
+fn a_printed_nan_is_noticed() {
+    let text = read("published/published-gcc.txt");
+    let mut words: Vec<&str> = text.lines().next().unwrap().split(' ').collect();
+    words[4] = "nan";
+    assert_eq!(in_file(PAIR, "published-gcc.txt", &words.join(" ")), 1);
 }
 
 /// As they are printed the two bad cases are different.

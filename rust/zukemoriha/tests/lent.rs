@@ -82,12 +82,12 @@ fn the_lent_block_holds_what_the_other_form_returns() {
 
 #[test]
 fn a_long_run_may_be_stopped_and_continued() {
-    // The largest number by one near the smallest normal one: about a thousand steps.
-    let (x, y) = (number(u64::MAX, 0x7FFE), number((1 << 63) + 1, 1));
+    // The largest number by a small denormal: as many steps as D allows, 32824 / 32 cut.
+    let (x, y) = (number(u64::MAX, 0x7FFE), number(25, 0));
     for kind in KINDS {
         let whole = x87::run(x, y, 32, kind, u32::MAX).unwrap();
         assert_eq!(whole.answer, Answer::Finished);
-        assert!(whole.steps > 0xFF, "more steps than a byte counts");
+        assert_eq!(whole.steps, 1025);
 
         let first = x87::run(x, y, 32, kind, 300).unwrap();
         assert_eq!((first.answer, first.steps), (Answer::Spent, 300));
