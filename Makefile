@@ -21,6 +21,7 @@ LIB = target/libzukemoriha.a
 out = target/c
 # the same, on a library that can make mistakes
 faults = target/faulty
+linked = $(out)/lib/libzukemoriha.a
 
 exports = export_remainder export_steps export_scaling export_lists
 programs = host untouched chains fold half fprem libm ldexp
@@ -32,8 +33,10 @@ unbuilt = $(foreach n,fmod remainder remquo ldexp frexp,-fno-builtin-$(n) -fno-b
 parallel = $(MAKE) --no-print-directory -j$$(nproc) --output-sync=target
 headers = tests/calls.h tests/operands.h include/zukemoriha.h
 exported = sed -n 's/^[a-z0-9_]* \(zk_[a-z0-9_]*\)(.*/\1/p' include/zukemoriha.h
-# Run in rust/: nothing comes from a registry. The crate looks for the archive from its own folder.
-cargo = env -u MAKEFLAGS -u MFLAGS CARGO_TARGET_DIR=../$(out)/rust ZUKEMORIHA_LIB_DIR=$(if $(filter /%,$(LIB)),,../../)$(dir $(LIB)) $(CARGO)
+# Run in rust/: nothing comes from a registry, and no setting of the caller's. The crate looks for the archive from its own folder.
+unset = MAKEFLAGS MFLAGS CARGO_MAKEFLAGS RUSTFLAGS CARGO_ENCODED_RUSTFLAGS CARGO_BUILD_RUSTFLAGS CARGO_BUILD_TARGET \
+    CARGO_TARGET_X86_64_UNKNOWN_LINUX_GNU_RUNNER CARGO_TARGET_X86_64_UNKNOWN_LINUX_GNU_RUSTFLAGS
+cargo = env $(addprefix -u ,$(unset)) CARGO_TARGET_DIR=../$(out)/rust ZUKEMORIHA_LIB_DIR=../../$(out)/lib $(CARGO)
 
 # ---- what README.md names
 
@@ -117,9 +120,9 @@ target/libzukemoriha.a: $(shell find crates -name '*.rt' -o -name '*.antt') crat
 	rm -f $@
 	{ echo create $@; printf 'addlib target/staticlib/lib%s.a\n' $(exports); echo save; echo end; } | ar -M
 
-# which archive the programs are linked with: another one is another sum, whatever its date
-$(out)/archive.sum: $(LIB) always | $(out)
-	@sha256sum $(LIB) | cmp -s - $@ || sha256sum $(LIB) > $@
+# what the tests are linked with: a copy, so that another library is a newer file, whatever its date
+$(linked): $(LIB) always | $(out)
+	@cmp -s $(LIB) $@ || { mkdir -p $(@D); cp $(LIB) $@; }
 
 $(out): | tools
 	mkdir -p $@
@@ -133,40 +136,42 @@ always:
 .PHONY: header documents examples install-check rust $(addprefix test-,$(programs))
 
 # it compiles, and names what the archive exports, no more and no less
-header: $(out)/archive.sum
+header: $(linked)
 	echo '#include "zukemoriha.h"' | $(CC) -std=c99 $(warnings) -Werror -Iinclude -fsyntax-only -x c -
 	echo '#include "zukemoriha.h"' | $(CXX) $(warnings) -Werror -Iinclude -fsyntax-only -x c++ -
 	$(exported) | sort > $(out)/declared
-	nm -g --defined-only $(LIB) | awk 'NF == 3 { print $$3 }' | sort | diff $(out)/declared -
+	nm -g --defined-only $(linked) | awk 'NF == 3 { print $$3 }' | sort | diff $(out)/declared -
 
-$(out)/%: examples/%.c include/zukemoriha.h $(out)/archive.sum
-	$(CC) $(cflags) $< $(LIB) -o $@
+$(out)/%: examples/%.c include/zukemoriha.h $(linked)
+	$(CC) $(cflags) $< $(linked) -o $@
 
 examples: $(out)/fold_angle $(out)/step80
 	$(out)/fold_angle | diff examples/fold_angle.out -
 	$(out)/step80 | diff examples/step80.out -
 
-install-check: $(out)/archive.sum
-	$(MAKE) --no-print-directory install prefix=$(out)/prefix DESTDIR= LIB=$(LIB)
+here = prefix=$(out)/prefix libdir=$(out)/prefix/lib includedir=$(out)/prefix/include pkgconfigdir=$(out)/prefix/lib/pkgconfig DESTDIR=
+
+install-check: $(linked)
+	$(MAKE) --no-print-directory install $(here) LIB=$(LIB)
 	export PKG_CONFIG_PATH=$(out)/prefix/lib/pkgconfig; \
 	$(CC) -std=c99 $(warnings) examples/fold_angle.c $$(pkg-config --cflags --libs zukemoriha) -o $(out)/installed
 	$(out)/installed | diff examples/fold_angle.out -
-	$(MAKE) --no-print-directory uninstall prefix=$(out)/prefix DESTDIR=
+	$(MAKE) --no-print-directory uninstall $(here)
 	test -z "$$(find $(out)/prefix -type f)"
 
-rust: $(out)/archive.sum
-	cd rust && $(cargo) test --release --offline
+rust: $(linked)
+	cd rust && $(cargo) test --release --offline --locked --no-fail-fast --features zukemoriha/std
 	cd rust && RUSTDOCFLAGS='-D warnings' $(cargo) doc --no-deps --offline --quiet
 
 # the impostors that PROOF.md lists are those that there are, and the files that the documents name exist
 documents:
 	sh tests/documents.sh
 
-$(out)/%: tests/%.c $(headers) $(out)/archive.sum
-	$(CC) $(cflags) $(unbuilt) -Itests $< $(LIB) -lm -o $@
+$(out)/%: tests/%.c $(headers) $(linked)
+	$(CC) $(cflags) $(unbuilt) -Itests $< $(linked) -lm -o $@
 
-$(out)/host: tests/host.cc include/zukemoriha.h $(out)/archive.sum
-	$(CXX) -O2 $(warnings) -Iinclude $< $(LIB) -o $@
+$(out)/host: tests/host.cc include/zukemoriha.h $(linked)
+	$(CXX) -O2 $(warnings) -Iinclude $< $(linked) -o $@
 
 $(addprefix test-,$(programs)): test-%: $(out)/%
 	$<
@@ -179,11 +184,11 @@ cases = 10000000
 seed = 2
 
 # a second C library: the same programs, linked with it
-$(out)/%-musl: tests/%.c $(headers) $(out)/archive.sum | peers
-	musl-gcc -static $(cflags) $(unbuilt) -Itests $< $(LIB) -lm -o $@
+$(out)/%-musl: tests/%.c $(headers) $(linked) | peers
+	musl-gcc -static $(cflags) $(unbuilt) -Itests $< $(linked) -lm -o $@
 
-$(out)/mpfr: tests/mpfr.c $(headers) $(out)/archive.sum | peers
-	$(CC) $(cflags) -Itests $< $(LIB) -lmpfr -lgmp -o $@
+$(out)/mpfr: tests/mpfr.c $(headers) $(linked) | peers
+	$(CC) $(cflags) -Itests $< $(linked) -lmpfr -lgmp -o $@
 
 $(addprefix long-,chains fprem libm ldexp libm-musl ldexp-musl mpfr): long-%: $(out)/%
 	$< $(cases) $(seed)
@@ -191,7 +196,7 @@ $(addprefix long-,chains fprem libm ldexp libm-musl ldexp-musl mpfr): long-%: $(
 # all pairs of binary16: against whole-number division, and against the second implementation
 long-half: $(out)/half
 	$(out)/half 1
-	cd rust && $(cargo) run --release --offline --bin half
+	cd rust && $(cargo) run --release --offline --locked --bin half
 
 # ---- faults: the exports renamed, and functions of the same names before them that make one mistake
 
@@ -215,8 +220,8 @@ noticed: rust $(addprefix $(out)/,$(programs))
 $(out)/shift.o: bench/shift.rs | $(out)
 	$(RUSTC) -O -C panic=abort --crate-type staticlib --emit obj $< -o $@
 
-$(out)/bench: bench/bench.c $(out)/shift.o include/zukemoriha.h $(out)/archive.sum
-	$(CC) $(cflags) $(unbuilt) $< $(out)/shift.o $(LIB) -lm -o $@
+$(out)/bench: bench/bench.c $(out)/shift.o include/zukemoriha.h $(linked)
+	$(CC) $(cflags) $(unbuilt) $< $(out)/shift.o $(linked) -lm -o $@
 
 bench-calls: $(out)/bench | meters
 	$(out)/bench

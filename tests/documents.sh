@@ -1,5 +1,5 @@
 #!/bin/sh
-# What the documents name is there: every edit in the row of its crate in docs/PROOF.md and no other, every file that a link or a
+# What the documents name is there, and the crate's version is the header's: every edit in the row of its crate in docs/PROOF.md and no other, every file that a link or a
 # path below crates/, rust/, tests/, vectors/ or docs/ speaks of.
 set -eu
 wrong=0
@@ -25,5 +25,7 @@ for page in README.md docs/*.md rust/zukemoriha/README.md vectors/README.md; do
         ls -d $path > /dev/null 2>&1 || say "$page: no $path"
     done
 done
+[ "$(sed -n 's/^version = //p' rust/zukemoriha/Cargo.toml)" = "$(sed -n 's/^#define ZK_VERSION //p' include/zukemoriha.h)" ] ||
+    say 'the Rust crate and the header are of different versions'
 rm -f "$listed"
 [ $wrong -eq 0 ] && echo 'what the documents name is there'

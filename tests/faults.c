@@ -128,6 +128,10 @@ uint8_t zk_run80(uint64_t x, uint16_t xw, uint64_t y, uint16_t yw, uint32_t size
     }
     if (fault("run-spent-by-its-last-step") && number == ZK_FINISHED && zk_block_steps(block) == budget)
         return block[10] = ZK_SPENT; /* spent by its last step */
+    if (fault("run-spent-after-two-steps-has-no-bits") && number == ZK_SPENT && zk_block_steps(block) > 1)
+        block[11] = 0;
+    if (fault("run-steps-cut-to-10-bits") && zk_is_answer(number))
+        block[13] &= 3;
     if (fault("run-a-step-too-many") && zk_is_answer(number) && zk_block_steps(block) > 511)
         block[12]++; /* a step too many in long runs */
     return number;
@@ -201,8 +205,17 @@ uint8_t zk_split80(uint64_t x, uint16_t xw, uint64_t *significand, uint16_t *sig
 
 uint8_t zk_fold64(const uint64_t *x, size_t nx, uint64_t *results, size_t nr, uint8_t *quotients, size_t nq, uint64_t y,
                          uint32_t kind, size_t *marked) {
-    uint8_t number = real_zk_fold64(x, nx, results, nr, quotients, nq, y, kind, marked);
+    uint8_t number;
     size_t i;
+    if (fault("fold-lengths-compared-in-a-byte") && (nx & 255) == (nr & 255) && (nx & 255) == (nq & 255))
+        nx = nr = nq = nx < nr ? (nx < nq ? nx : nq) : (nr < nq ? nr : nq);
+    if (fault("fold-lengths-compared-in-16-bits") && (nx & 65535) == (nr & 65535) && (nx & 65535) == (nq & 65535))
+        nx = nr = nq = nx < nr ? (nx < nq ? nx : nq) : (nr < nq ? nr : nq);
+    if (fault("fold-lengths-compared-in-32-bits") && (uint32_t)nx == (uint32_t)nr && (uint32_t)nx == (uint32_t)nq)
+        nx = nr = nq = nx < nr ? (nx < nq ? nx : nq) : (nr < nq ? nr : nq);
+    if (fault("fold-shorter-results-accepted-from-six") && nx > 5 && nr < nx && nq == nx)
+        nx = nq = nr;
+    number = real_zk_fold64(x, nx, results, nr, quotients, nq, y, kind, marked);
     for (i = 0; number == ZK_FINISHED && i < nx; i++) {
         if (fault("fold-bits-of-the-first-places") && i > 30)
             quotients[i] = 0; /* bits of the first places alone */
@@ -211,6 +224,10 @@ uint8_t zk_fold64(const uint64_t *x, size_t nx, uint64_t *results, size_t nr, ui
         if (fault("fold-zero-loses-its-sign") && quotients[i] != ZK_MARK && (results[i] & ~sign64) == 0)
             results[i] = 0; /* the sign of a zero */
     }
+    if (fault("fold-count-cut-to-16-bits") && number == ZK_FINISHED)
+        *marked &= 65535;
+    if (fault("fold-all-marked-is-none") && number == ZK_FINISHED && *marked == nx && nx > 5)
+        *marked = 0;
     if (fault("fold-count-cut-to-a-byte") && number == ZK_FINISHED)
         *marked &= 255;
     if (fault("fold-refusal-writes") && number == ZK_NAN)

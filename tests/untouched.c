@@ -245,6 +245,24 @@ static void folds(void) {
     check_bytes(&l, &want, sizeof l, "a list by infinity", BINARY64);
 }
 
+/* Lists whose lengths are equal in their lower 32 bits: refused, so that the long one is not looked at. */
+static void long_lists(void) {
+    const size_t n = 2, far = ((size_t)1 << 32) + n;
+    uint64_t x[2] = {two, two}, results[2] = {1, 1};
+    uint8_t quotients[2] = {1, 1};
+    size_t marked = 12345;
+    void *room = mmap(NULL, 8 * far, PROT_READ | PROT_WRITE, MAP_PRIVATE | MAP_ANONYMOUS | MAP_NORESERVE, -1, 0);
+    if (room == MAP_FAILED) {
+        printf("no room for long lists: not tried\n");
+        return;
+    }
+    check_number(zk_fold64(room, far, results, n, quotients, n, two, 0, &marked), ZK_BAD_LENGTH, "a long list of dividends", BINARY64);
+    check_number(zk_fold64(x, n, room, far, quotients, n, two, 0, &marked), ZK_BAD_LENGTH, "a long list of results", BINARY64);
+    check_number(zk_fold64(x, n, results, n, room, far, two, 0, &marked), ZK_BAD_LENGTH, "a long list of quotients", BINARY64);
+    check(results[0] == 1 && results[1] == 1 && quotients[0] == 1 && quotients[1] == 1 && marked == 12345, "a refused long list", BINARY64);
+    munmap(room, 8 * far);
+}
+
 /* Blocks to the last byte: value, number, quotient bits, steps. */
 struct block_case {
     struct pattern x, y;
@@ -358,6 +376,7 @@ static void everything(void) {
     long_block();
     scalings_and_splits();
     folds();
+    long_lists();
     blocks();
     spent_blocks();
     kinds();

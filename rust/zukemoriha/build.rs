@@ -4,6 +4,7 @@
 //! crate lies in, and where pkg-config says that it is installed.
 
 use std::env;
+use std::fs;
 use std::path::{Path, PathBuf};
 use std::process::{self, Command};
 
@@ -23,10 +24,14 @@ fn main() {
     }
 }
 
+/// Links a copy under a name of its own, so that no other folder's archive can take its place.
 fn link(folder: &Path) {
-    println!("cargo:rerun-if-changed={}", folder.join(ARCHIVE).display());
-    println!("cargo:rustc-link-search=native={}", folder.display());
-    println!("cargo:rustc-link-lib=static=zukemoriha");
+    let archive = folder.join(ARCHIVE);
+    let out = PathBuf::from(env::var_os("OUT_DIR").expect("cargo sets OUT_DIR"));
+    fs::copy(&archive, out.join("libzukemoriha_archive.a")).expect("the archive can be copied");
+    println!("cargo:rerun-if-changed={}", archive.display());
+    println!("cargo:rustc-link-search=native={}", out.display());
+    println!("cargo:rustc-link-lib=static=zukemoriha_archive");
 }
 
 /// The archive has code of one kind of machine.

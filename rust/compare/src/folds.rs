@@ -42,6 +42,20 @@ pub fn generated(pair: Pair, lists: u64) -> (Comparison, u32) {
     (comparison, most_marked)
 }
 
+/// Two lists of so many places, of NaNs and of anything: answers, differences, and how many marks
+/// the first one has.
+pub fn long(pair: Pair, places: usize) -> (u64, u64, u32) {
+    let layout = Layout::of(Format::Binary64);
+    let mut comparison = Comparison::new(pair);
+    let mut draw = Draw(2);
+    let (kind, divisor) = (Kind::Truncated, 2f64.to_bits());
+    let nans = vec![f64::NAN.to_bits(); places];
+    let marked = hold(&mut comparison, kind, &nans, divisor, None).steps;
+    let any: Vec<u64> = (0..places).map(|_| draw.any(&layout) as u64).collect();
+    hold(&mut comparison, kind, &any, divisor, None);
+    (comparison.answers, comparison.different, marked)
+}
+
 /// A list through both, and each of its places. Returns the head of the library's.
 fn hold(
     comparison: &mut Comparison,

@@ -138,6 +138,9 @@ fn one_wrong_list_is_noticed() {
         let altered = Altered::new(|_| (), change);
         let different = folds::compare([&altered, &Second], &text).different;
         assert!(different > 0, "{what}");
+        let altered = Altered::new(|_| (), change);
+        let different = folds::generated([&altered, &Second], 100).0.different;
+        assert!(different > 0, "{what}, generated");
     }
 }
 

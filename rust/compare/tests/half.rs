@@ -13,8 +13,5 @@ fn some_dividends_by_every_divisor() {
         "binary16: {pairs} pairs, both kinds, {} different",
         comparison.different
     );
-    assert_eq!(
-        (pairs, comparison.different),
-        (dividends.len() as u64 * 65536, 0)
-    );
+    assert_eq!((pairs, comparison.different), (5_832_704, 0));
 }
