@@ -4,10 +4,10 @@ use mathlib.Core.Bool.{Bool, true, false, not, cond}
 use Prim.Native.Nat.{ℕ, zero, suc, _<_}
 use Rattle.digits.proofs.Tests.{clash, not-zero}
 use Rattle.definitions.specs.Class.{Value, finite}
-use Rattle.definitions.specs.Format.{Format, Held, classOf, patternOf, patterns, x87}
+use Rattle.definitions.specs.Format.{Format, Representable, classOf, patternOf, patterns, x87}
 use Rattle.definitions.specs.Numbers.{numberOf, checks, first, accepted}
 use Rattle.definitions.specs.declared.Kind.{Kind}
-use Rattle.definitions.specs.Division.{Reply, by, finish, dividendOf}
+use Rattle.definitions.specs.Division.{Outcome, by, finish, dividendOf}
 use Rattle.definitions.specs.Steps as Steps
 use Rattle.definitions.specs.Steps.{followed}
 use Rattle.definitions.specs.Reports.{Report, Lent, fitting, sized, calling, reportOf, stepReport, runReport}
@@ -57,36 +57,36 @@ refused-adds κ y (run l n b) x e = (rw e, rw e)
 
 -- ---- values stay representable, so that a pattern is read as the value that was written
 
-pub step-held : (f : Format) (κ : Kind) (n m : ℕ) (x : Value) → 0 < m → Held f m → Held f (x .count) → Held f (Steps.step κ n (by m) x .value .count)
+pub step-held : (f : Format) (κ : Kind) (n m : ℕ) (x : Value) → 0 < m → Representable f m → Representable f (x .count) → Representable f (Steps.step κ n (by m) x .value .count)
 unfolding finish
 step-held f κ n m x p hm hx =
-    step-cases (λ r. Held f (r .value .count)) κ n m x (λ e. finish-held f κ m x p hm hx) (λ e q l j i. cut-held f j m x p hm hx)
+    step-cases (λ r. Representable f (r .value .count)) κ n m x (λ e. finish-held f κ m x p hm hx) (λ e q l j i. cut-held f j m x p hm hx)
 
-pub run-held : (f : Format) (κ : Kind) (n b m : ℕ) (x : Value) → 0 < m → Held f m → Held f (x .count) → Held f (Steps.run κ n b (by m) x .value .count)
+pub run-held : (f : Format) (κ : Kind) (n b m : ℕ) (x : Value) → 0 < m → Representable f m → Representable f (x .count) → Representable f (Steps.run κ n b (by m) x .value .count)
 unfolding Steps.run
 run-held f κ n zero m x p hm hx = hx
 run-held f κ n (suc b) m x p hm hx = go (s .done) (step-held f κ n m x p hm hx) (run-held f κ n b m (s .value) p hm)
   where
-    s : Reply
+    s : Outcome
     s = Steps.step κ n (by m) x
 
-    r : Reply
+    r : Outcome
     r = Steps.run κ n b (by m) (s .value)
 
-    go : (t : Bool) → Held f (s .value .count) → (Held f (s .value .count) → Held f (r .value .count)) → Held f ((cond t s (followed s r)) .value .count)
+    go : (t : Bool) → Representable f (s .value .count) → (Representable f (s .value .count) → Representable f (r .value .count)) → Representable f ((cond t s (followed s r)) .value .count)
     go true h k = h
     go false h k = k h
 
 -- the x87 pattern x is read as the value v, and v is written as x
 pub record Written (x : ℕ) (v : Value) : Type 0 where
   pub read : classOf x87 x ≡ finite v
-  pub held : Held x87 (v .count)
+  pub held : Representable x87 (v .count)
   pub pattern : patternOf x87 (finite v) ≡ x
 
 pub finite-written : (x : ℕ) (v : Value) → x < patterns x87 → classOf x87 x ≡ finite v → Written x v
 finite-written x v l e = record { read = e; held = read-held x87 regular80 x v e; pattern = written-read x87 regular80 x v l e }
 
-pub value-written : (v : Value) → Held x87 (v .count) → Written (patternOf x87 (finite v)) v
+pub value-written : (v : Value) → Representable x87 (v .count) → Written (patternOf x87 (finite v)) v
 value-written v h = record { read = read-written x87 regular80 v h; held = h; pattern = refl }
 
 -- a state of a list: a pattern of the value that it stands for
@@ -101,8 +101,8 @@ written-state {x} h = subst (Written x) (sym (written-value h)) h
 
 -- ---- what an accepted call tells
 
-module _ (κ : Kind) (m : ℕ) (p : 0 < m) (hm : Held x87 m) (c : Call) (x : ℕ) (h : State x) where
-  reply : Reply
+module _ (κ : Kind) (m : ℕ) (p : 0 < m) (hm : Representable x87 m) (c : Call) (x : ℕ) (h : State x) where
+  reply : Outcome
   reply = callReply κ m c (valueAt x)
 
   reached : Written (patternOf x87 (finite (reply .value))) (reply .value)

@@ -9,28 +9,28 @@ use borrow.Author.Tests.{eqb-false}
 use lib.Dec.{eqb}
 use Rattle.digits.proofs.Tests.{clash}
 use Rattle.definitions.specs.Class.{Value, Class, unsupported, nan, infinite, finite}
-use Rattle.definitions.specs.Format.{Held, classOf, patternOf, x87}
+use Rattle.definitions.specs.Format.{Representable, classOf, patternOf, x87}
 use Rattle.definitions.specs.Numbers.{numberOf, checks, first, isZero}
 use Rattle.definitions.specs.Remainder.{quotientModulus}
 use Rattle.definitions.specs.declared.Kind.{Kind}
-use Rattle.definitions.specs.Division.{Reply, unbounded, finish, dividendOf, divisorOf}
+use Rattle.definitions.specs.Division.{Outcome, unbounded, finish, dividendOf, divisorOf}
 use Rattle.definitions.specs.Steps.{step, run, followed}
 use Rattle.definitions.specs.Reports.{Report, Lent, sized, reportOf, runReport}
 use Rattle.laws.proofs.Regular.{regular80}
 use Rattle.laws.proofs.RoundTrip.{read-written, read-held}
 use Rattle.chains.proofs.Run.{run-resumed}
 use Rattle.chains.proofs.Answer.{run-held}
-use Rattle.chains.proofs.Spent.{Outcome, refused, passed, numbered, result}
+use Rattle.chains.proofs.Spent.{Verdict, refused, passed, numbered, result}
 
 -- what a run reports where nothing is refused
-abbrev told : Reply → Report ℕ
+abbrev told : Outcome → Report ℕ
 told r = reportOf (cond (not (r .done)) 7 0) r
 
 -- two reports, the second from the first one's value, as one
 abbrev pub together : Report ℕ → Report ℕ → Report ℕ
 together r s = record { number = s .number; value = s .value; quotient = (r .quotient + s .quotient) % quotientModulus; steps = r .steps + s .steps }
 
-told-followed : (r s : Reply) → r .done ≡ false → told (followed r s) ≡ together (told r) (told s)
+told-followed : (r s : Outcome) → r .done ≡ false → told (followed r s) ≡ together (told r) (told s)
 told-followed r s e = rw e (go (s .done))
   where
     go : (t : Bool) → reportOf (cond (not t) 7 0) (followed r s) ≡ together (reportOf 7 r) (reportOf (cond (not t) 7 0) s)
@@ -38,14 +38,14 @@ told-followed r s e = rw e (go (s .done))
     go false = rw (mod-add-mod, add-mod-mod)
 
 -- a run by a divisor without a count leaves the value as it is
-still : (κ : Kind) (n b : ℕ) (v : Value) → Held x87 (v .count) → Held x87 (run κ n b unbounded v .value .count)
+still : (κ : Kind) (n b : ℕ) (v : Value) → Representable x87 (v .count) → Representable x87 (run κ n b unbounded v .value .count)
 unfolding run step finish
 still κ n zero v h = h
 still κ n (suc b) v h = h
 
 -- the value of a run by any divisor stays representable
-held : (κ : Kind) (n b y : ℕ) (Y : Class) (v : Value) → classOf x87 y ≡ Y → isZero Y ≡ false → Held x87 (v .count)
-    → Held x87 (run κ n b (divisorOf Y) v .value .count)
+held : (κ : Kind) (n b y : ℕ) (Y : Class) (v : Value) → classOf x87 y ≡ Y → isZero Y ≡ false → Representable x87 (v .count)
+    → Representable x87 (run κ n b (divisorOf Y) v .value .count)
 held κ n b y (finite w) v e z h =
     let some = eqb-false (w .count) 0 z in
     run-held x87 κ n b (w .count) v (omega arith) (read-held x87 regular80 y w e) h
@@ -90,7 +90,7 @@ module _ (l : Lent) (κ : Kind) (n y : ℕ) where
         plain x (b + c) v e k ∙ ap told (run-resumed κ n b c d v spent) ∙ told-followed r s spent ∙ (λ i. together (sym p i) (sym q i))
 
     -- a dividend that is not finite is refused, whatever the reply
-    of-class : (X : Class) → classOf x87 x ≡ X → Outcome (not (sized n)) (isZero (classOf x87 y)) (numbered l n X (classOf x87 y)) → Claim
+    of-class : (X : Class) → classOf x87 x ≡ X → Verdict (not (sized n)) (isZero (classOf x87 y)) (numbered l n X (classOf x87 y)) → Claim
     of-class X e (refused q a o s k) =
         let other = eqb-false q 7 s in
         clash (omega (arith, sym (k (cond (not (run κ n b (divisorOf (classOf x87 y)) (dividendOf X) .done)) 7 0)) ∙ sym (number-is x b X e) ∙ seven))

@@ -7,12 +7,12 @@ use Prim.Native.Nat.{ℕ, zero, suc, _*_, _/_, _%_, _^_, _<_}
 use lib.IntN.{ℤ, pos, _+ℤ_, _*ℤ_, +ℤ-idl, +ℤ-idr, +ℤ-assoc, +ℤ-comm, *ℤ-zero}
 use Rattle.definitions.specs.Class.{Value, signed, valueOf, combined}
 use Rattle.definitions.specs.declared.Kind.{Kind}
-use Rattle.definitions.specs.Division.{Reply, by, finish}
+use Rattle.definitions.specs.Division.{Outcome, by, finish}
 use Rattle.definitions.specs.Steps.{cutAt, step, followed, run, Link, chain, signedPart, partsSum}
 use Rattle.laws.proofs.Division.{signed-mul, signed-add, rule}
 use Rattle.chains.proofs.Ring.{distrib-left}
 use Rattle.chains.proofs.Step.{step-cases}
-use Rattle.chains.proofs.Reply.{cut-sum}
+use Rattle.chains.proofs.Outcome.{cut-sum}
 
 -- x is the value v and the divisor y times p
 abbrev pub Exact : Value → Value → Value → ℤ → Type 0
@@ -28,7 +28,7 @@ exact-followed y x u v p q f g =
     f ∙ ap (λ (z : ℤ). z +ℤ a) g ∙ +ℤ-assoc (valueOf v) b a ∙ ap (λ (z : ℤ). valueOf v +ℤ z) (+ℤ-comm b a ∙ sym (distrib-left (valueOf y) p q))
 
 -- a reply to x by y, exact with its own part
-abbrev pub ExactReply : Value → Value → Reply → Type 0
+abbrev pub ExactReply : Value → Value → Outcome → Type 0
 ExactReply y x r = Exact y x (r .value) (signed (combined (x .negative) (y .negative)) (r .whole))
 
 -- "the value becomes x less QQ·2^(D−n) times y (signs as above)"
@@ -53,10 +53,10 @@ unfolding run chain partsSum
 chain-exact κ n zero y x p = exact-none y x
 chain-exact κ n (suc b) y x p = go (s .done) (chain-exact κ n b y (s .value) p)
   where
-    s : Reply
+    s : Outcome
     s = step κ n (by (y .count)) x
 
-    r : Reply
+    r : Outcome
     r = run κ n b (by (y .count)) (s .value)
 
     ls : List Link

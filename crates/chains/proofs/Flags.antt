@@ -8,7 +8,7 @@ use borrow.Author.Tests.{eqb-true, eqb-false}
 use lib.Dec.{eqb}
 use Rattle.definitions.specs.Format.{classOf, x87}
 use Rattle.definitions.specs.declared.Kind.{Kind}
-use Rattle.definitions.specs.Division.{Reply, dividendOf, divisorOf}
+use Rattle.definitions.specs.Division.{Outcome, dividendOf, divisorOf}
 use Rattle.definitions.specs.Steps.{step, flagsOf}
 use Rattle.definitions.specs.Reports.{Lent, stepReport}
 
@@ -27,10 +27,10 @@ three w =
     omega arith
 
 -- the number whose bits 2, 1 and 0 are C0, C3 and C1
-abbrev pub octant : Reply → ℕ
+abbrev pub octant : Outcome → ℕ
 octant r = cond (flagsOf r .c0) 1 0 * 4 + cond (flagsOf r .c3) 1 0 * 2 + cond (flagsOf r .c1) 1 0
 
-flags-are-bits : (r : Reply) → octant r ≡ r .whole % 8
+flags-are-bits : (r : Outcome) → octant r ≡ r .whole % 8
 flags-are-bits r = rw (bit (r .whole / 4 % 2) (omega arith), bit (r .whole / 2 % 2) (omega arith), bit (r .whole % 2) (omega arith)) (three (r .whole))
 
 -- on a finished step it is the quotient that the step reports

@@ -1,11 +1,11 @@
 pub mod Ring
 pub mod Step
-pub mod Reply
+pub mod Outcome
 pub mod Run
 pub mod Exact
 pub mod Lists
 pub mod Answer
-pub mod Demand3
+pub mod EveryList
 pub mod Spent
 pub mod Continued
 pub mod Flags

@@ -11,13 +11,13 @@ use lib.ListN.{length, length-append}
 use Rattle.definitions.specs.Class.{Value}
 use Rattle.definitions.specs.Numbers.{accepted}
 use Rattle.definitions.specs.declared.Kind.{Kind}
-use Rattle.definitions.specs.Division.{Reply, by}
-use Rattle.definitions.specs.Remainder.{quotientModulus, shown}
+use Rattle.definitions.specs.Division.{Outcome, by}
+use Rattle.definitions.specs.Remainder.{quotientModulus, quotientBits}
 use Rattle.definitions.specs.Steps as Steps
 use Rattle.definitions.specs.Steps.{followed, chain, partsSum}
 use Rattle.definitions.specs.Reports.{Report, sized}
 use Rattle.definitions.specs.Calls.{Call, step, run, Taken, goOn, taken, lastValue, lastNumber, finished, totalSteps, totalQuotient, budgetOf, totalBudget, IsRun, Runs, Some, Listed, none, refused, ends, goesOn, callChain, listChain}
-use Rattle.chains.proofs.Reply.{Sound, sound-none, sound-followed}
+use Rattle.chains.proofs.Outcome.{Sound, sound-none, sound-followed}
 use Rattle.chains.proofs.Run.{run-resumed, sound-run, chain-length}
 use Rattle.chains.proofs.Exact.{Exact, exact-none, exact-followed, chain-exact, parts-append}
 
@@ -42,7 +42,7 @@ abbrev pub openNumber : Call → ℕ
 openNumber (step l n) = 1
 openNumber (run l n b) = 7
 
-abbrev pub callReply : Kind → ℕ → Call → Value → Reply
+abbrev pub callReply : Kind → ℕ → Call → Value → Outcome
 callReply κ m c x = Steps.run κ (sizeOf c) (budgetOf c) (by m) x
 
 call-chain : (κ : Kind) (m : ℕ) (c : Call) (x : Value) → callChain κ (by m) c x ≡ chain κ (sizeOf c) (budgetOf c) (by m) x
@@ -55,18 +55,18 @@ pub record Tells {A : Type 0} (value : A → Value) (κ : Kind) (m : ℕ) (c : C
   pub size : sized (sizeOf c) ≡ true
   pub number : r .number ≡ cond (callReply κ m c (value x) .done) 0 (openNumber c)
   pub reached : value (r .value) ≡ callReply κ m c (value x) .value
-  pub quotient : r .quotient ≡ shown (callReply κ m c (value x) .whole)
+  pub quotient : r .quotient ≡ quotientBits (callReply κ m c (value x) .whole)
   pub steps : r .steps ≡ callReply κ m c (value x) .steps
 
 -- What a list tells: `reply` is what it comes to
 pub record ListTells {A : Type 0} (value : A → Value) (κ : Kind) (w : Value) (x : A) (ts : List (Taken A)) : Type 0 where
-  pub reply : Reply
+  pub reply : Outcome
   pub sound : Sound κ (w .count) (value x) reply
   pub exact : Exact w (value x) (reply .value) (partsSum w (listChain value κ (by (w .count)) ts))
   pub links : length (listChain value κ (by (w .count)) ts) ≡ reply .steps
   pub reached : value (lastValue x ts) ≡ reply .value
   pub done : finished ts ≡ reply .done
-  pub quotient : totalQuotient ts ≡ shown (reply .whole)
+  pub quotient : totalQuotient ts ≡ quotientBits (reply .whole)
   pub steps : totalSteps ts ≡ reply .steps
   pub number : (n : ℕ) → Runs n ts → lastNumber 7 ts ≡ cond (reply .done) 0 7
   pub size : (n : ℕ) → Runs n ts → Some ts → sized n ≡ true
@@ -104,7 +104,7 @@ module _ {A : Type 0} (value : A → Value) (κ : Kind) (w : Value) (p : 0 < w .
       }
 
   module _ (c : Call) (x : A) (r : Report A) (h : Tells value κ (w .count) c x r) where
-    own : Reply
+    own : Outcome
     own = callReply κ (w .count) c (value x)
 
     own-chain : callChain κ (by (w .count)) c (value x) ≡ chain κ (sizeOf c) (budgetOf c) (by (w .count)) (value x)

@@ -11,11 +11,11 @@ use lib.ListN.{length}
 use Rattle.digits.proofs.Tests.{clash}
 use Rattle.definitions.specs.Class.{Value, gap}
 use Rattle.definitions.specs.declared.Kind.{Kind}
-use Rattle.definitions.specs.Division.{Reply, Divisor, unbounded, by, finish}
+use Rattle.definitions.specs.Division.{Outcome, Divisor, unbounded, by, finish}
 use Rattle.definitions.specs.Steps.{step, followed, run, chain, mostSteps, needed}
 use Rattle.definitions.specs.Reports.{sized}
 use Rattle.chains.proofs.Step.{step-one}
-use Rattle.chains.proofs.Reply.{continued, followed-continued, Sound, sound-none, sound-step, sound-continued, sound-ends}
+use Rattle.chains.proofs.Outcome.{continued, followed-continued, Sound, sound-none, sound-step, sound-continued, sound-ends}
 
 -- A run with the budget a + b is one with a and, where that has not finished, one with b from its value.
 pub run-add : (κ : Kind) (n a b : ℕ) (d : Divisor) (x : Value)
@@ -24,10 +24,10 @@ unfolding run
 run-add κ n zero b d x = simp zero-add
 run-add κ n (suc a) b d x = rw (suc-add a b) (go (step κ n d x .done) refl (run-add κ n a b d (step κ n d x .value)))
   where
-    s : Reply
+    s : Outcome
     s = step κ n d x
 
-    r : Reply
+    r : Outcome
     r = run κ n a d (s .value)
 
     go : (t : Bool) → s .done ≡ t → run κ n (a + b) d (s .value) ≡ continued r (run κ n b d (r .value))
@@ -48,7 +48,7 @@ pub run-one : (κ : Kind) (n : ℕ) (d : Divisor) (x : Value) → run κ n 1 d x
 unfolding run
 run-one κ n d x = go (step κ n d x) (step κ n d x .done) refl
   where
-    go : (s : Reply) (t : Bool) → s .done ≡ t → cond t s (followed s (record { done = false; value = s .value; whole = 0; steps = 0 })) ≡ s
+    go : (s : Outcome) (t : Bool) → s .done ≡ t → cond t s (followed s (record { done = false; value = s .value; whole = 0; steps = 0 })) ≡ s
     go s true e = refl
     go s false e = simp add-zero (λ i. record { done = sym e i; value = s .value; whole = s .whole; steps = s .steps })
 
@@ -69,10 +69,10 @@ unfolding run
 run-spent κ n zero d x e = refl
 run-spent κ n (suc b) d x e = go (step κ n d x .done) refl (run-spent κ n b d (step κ n d x .value)) e
   where
-    s : Reply
+    s : Outcome
     s = step κ n d x
 
-    r : Reply
+    r : Outcome
     r = run κ n b d (s .value)
 
     go : (t : Bool) → s .done ≡ t → (r .done ≡ false → r .steps ≡ b) → (cond t s (followed s r)) .done ≡ false → (cond t s (followed s r)) .steps ≡ suc b
@@ -80,7 +80,7 @@ run-spent κ n (suc b) d x e = go (step κ n d x .done) refl (run-spent κ n b d
     go false f h g = omega (arith, h g, step-one κ n d x)
 
 -- what a run with the budget b comes to, where a run with the budget c finishes
-record Budgeted (b : ℕ) (r c : Reply) : Type 0 where
+record Budgeted (b : ℕ) (r c : Outcome) : Type 0 where
   pub steps : r .steps ≡ min b (c .steps)
   pub done : r .done ≡ leb (c .steps) b
 
@@ -94,7 +94,7 @@ budgeted κ n zero (suc c) d x e = go (step κ n d x .done)
     go false = record { steps = omega arith; done = sym (lt-leb (step κ n d x .steps + run κ n c d (step κ n d x .value) .steps) 0 (omega (arith, step-one κ n d x))) }
 budgeted κ n (suc b) (suc c) d x e = go (step κ n d x .done) refl e (budgeted κ n b c d (step κ n d x .value))
   where
-    s : Reply
+    s : Outcome
     s = step κ n d x
 
     go : (t : Bool) → s .done ≡ t → (cond t s (followed s (run κ n c d (s .value)))) .done ≡ true
@@ -112,7 +112,7 @@ budgeted κ n (suc b) (suc c) d x e = go (step κ n d x .done) refl e (budgeted 
 pub run-enough : (κ : Kind) (n m : ℕ) (x : Value) → 0 < m → sized n ≡ true → run κ n (mostSteps (gap (x .count) m)) (by m) x .done ≡ true
 run-enough κ n m x p z = go (r .done) refl
   where
-    r : Reply
+    r : Outcome
     r = run κ n (mostSteps (gap (x .count) m)) (by m) x
 
     go : (t : Bool) → r .done ≡ t → r .done ≡ true
@@ -143,7 +143,7 @@ unfolding run chain
 chain-length κ n zero d x = refl
 chain-length κ n (suc b) d x = go (step κ n d x .done) (chain-length κ n b d (step κ n d x .value))
   where
-    s : Reply
+    s : Outcome
     s = step κ n d x
 
     go : (t : Bool) → length (chain κ n b d (s .value)) ≡ run κ n b d (s .value) .steps

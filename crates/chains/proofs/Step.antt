@@ -14,7 +14,7 @@ use Rattle.digits.proofs.Tests.{clash, and-both}
 use Rattle.digits.proofs.Size.{size-zero}
 use Rattle.definitions.specs.Class.{Value, gap}
 use Rattle.definitions.specs.declared.Kind.{Kind}
-use Rattle.definitions.specs.Division.{Reply, Divisor, unbounded, by, finish, finishBy}
+use Rattle.definitions.specs.Division.{Outcome, Divisor, unbounded, by, finish, finishBy}
 use Rattle.definitions.specs.Steps.{near, cutAt, usedSize, stepBy, step, mostSteps}
 use Rattle.definitions.specs.Reports.{sized}
 use Rattle.laws.proofs.Gap.{gap-near, gap-far}
@@ -45,7 +45,7 @@ pub used-places : (n : ℕ) (D : ℤ) → sized n ≡ true → 64 ≤ natAbs D �
 used-places n D z l = let b = sized-bounds n z in (omega arith, omega arith)
 
 -- A step is a finishing one, or a cut at the place j that the gap and the size leave: what holds of both holds of it.
-pub step-cases : (P : Reply → Type 0) (κ : Kind) (n m : ℕ) (x : Value) → let D = gap (x .count) m in (near D ≡ true → P (finish κ (by m) x))
+pub step-cases : (P : Outcome → Type 0) (κ : Kind) (n m : ℕ) (x : Value) → let D = gap (x .count) m in (near D ≡ true → P (finish κ (by m) x))
     → (near D ≡ false → natAbs D ≡ excess (x .count) m → 64 ≤ natAbs D → (j : ℕ) → j ≡ natAbs D - usedSize D n → P (cutAt j m x))
     → P (step κ n (by m) x)
 unfolding step stepBy finish

@@ -40,40 +40,40 @@ refusalNumber why.ZeroSplit = 8
 abbrev pub joined : Extended → ℕ
 joined x = x .word * 2 ^ 64 + x .significand
 
-unfoldable pub remainderTold : Format → RemainderAnswer → Remainder
-remainderTold f (rem.Finished v q) = record { number = 0; value = v; quotient = q }
-remainderTold f (rem.Refused w) = record { number = refusalNumber w; value = refusedValue f; quotient = 0 }
+unfoldable pub remainderMeaning : Format → RemainderAnswer → Remainder
+remainderMeaning f (rem.Finished v q) = record { number = 0; value = v; quotient = q }
+remainderMeaning f (rem.Refused w) = record { number = refusalNumber w; value = refusedValue f; quotient = 0 }
 
-unfoldable pub remainderTold80 : RemainderAnswer80 → Remainder
-remainderTold80 (rem80.Finished v q) = record { number = 0; value = joined v; quotient = q }
-remainderTold80 (rem80.Refused w) = record { number = refusalNumber w; value = refusedValue x87; quotient = 0 }
+unfoldable pub remainderMeaning80 : RemainderAnswer80 → Remainder
+remainderMeaning80 (rem80.Finished v q) = record { number = 0; value = joined v; quotient = q }
+remainderMeaning80 (rem80.Refused w) = record { number = refusalNumber w; value = refusedValue x87; quotient = 0 }
 
 -- a refused call reports no steps
 abbrev refusedReport : Refusal → Report ℕ
 refusedReport w = record { number = refusalNumber w; value = refusedValue x87; quotient = 0; steps = 0 }
 
-unfoldable pub stepTold : StepAnswer → Report ℕ
-stepTold (step.Finished v q) = record { number = 0; value = joined v; quotient = q; steps = 1 }
-stepTold (step.Partial v q) = record { number = 1; value = joined v; quotient = q; steps = 1 }
-stepTold (step.Refused w) = refusedReport w
+unfoldable pub stepMeaning : StepAnswer → Report ℕ
+stepMeaning (step.Finished v q) = record { number = 0; value = joined v; quotient = q; steps = 1 }
+stepMeaning (step.Partial v q) = record { number = 1; value = joined v; quotient = q; steps = 1 }
+stepMeaning (step.Refused w) = refusedReport w
 
-unfoldable pub runTold : RunAnswer → Report ℕ
-runTold (run.Finished v q s) = record { number = 0; value = joined v; quotient = q; steps = s }
-runTold (run.Spent v q s) = record { number = 7; value = joined v; quotient = q; steps = s }
-runTold (run.Refused w) = refusedReport w
+unfoldable pub runMeaning : RunAnswer → Report ℕ
+runMeaning (run.Finished v q s) = record { number = 0; value = joined v; quotient = q; steps = s }
+runMeaning (run.Spent v q s) = record { number = 7; value = joined v; quotient = q; steps = s }
+runMeaning (run.Refused w) = refusedReport w
 
-unfoldable pub scaleTold : Format → ScaleAnswer → ScaleReport
-scaleTold f (scale.Scaled v r) = record { number = 0; value = v; says = r }
-scaleTold f (scale.Refused w) = record { number = refusalNumber w; value = refusedValue f; says = Exact }
+unfoldable pub scaleMeaning : Format → ScaleAnswer → ScaleReport
+scaleMeaning f (scale.Scaled v r) = record { number = 0; value = v; says = r }
+scaleMeaning f (scale.Refused w) = record { number = refusalNumber w; value = refusedValue f; says = Exact }
 
-unfoldable pub scaleTold80 : ScaleAnswer80 → ScaleReport
-scaleTold80 (scale80.Scaled v r) = record { number = 0; value = joined v; says = r }
-scaleTold80 (scale80.Refused w) = record { number = refusalNumber w; value = refusedValue x87; says = Exact }
+unfoldable pub scaleMeaning80 : ScaleAnswer80 → ScaleReport
+scaleMeaning80 (scale80.Scaled v r) = record { number = 0; value = joined v; says = r }
+scaleMeaning80 (scale80.Refused w) = record { number = refusalNumber w; value = refusedValue x87; says = Exact }
 
-unfoldable pub splitTold : Format → SplitAnswer → SplitReport
-splitTold f (split.Parts s e) = record { number = 0; significand = s; exponent = e }
-splitTold f (split.Refused w) = record { number = refusalNumber w; significand = refusedValue f; exponent = pos 0 }
+unfoldable pub splitMeaning : Format → SplitAnswer → SplitReport
+splitMeaning f (split.Parts s e) = record { number = 0; significand = s; exponent = e }
+splitMeaning f (split.Refused w) = record { number = refusalNumber w; significand = refusedValue f; exponent = pos 0 }
 
-unfoldable pub splitTold80 : SplitAnswer80 → SplitReport
-splitTold80 (split80.Parts s e) = record { number = 0; significand = joined s; exponent = e }
-splitTold80 (split80.Refused w) = record { number = refusalNumber w; significand = refusedValue x87; exponent = pos 0 }
+unfoldable pub splitMeaning80 : SplitAnswer80 → SplitReport
+splitMeaning80 (split80.Parts s e) = record { number = 0; significand = joined s; exponent = e }
+splitMeaning80 (split80.Refused w) = record { number = refusalNumber w; significand = refusedValue x87; exponent = pos 0 }

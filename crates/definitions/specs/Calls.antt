@@ -117,7 +117,7 @@ abbrev pub valueAt : ℕ → Value
 valueAt x = dividendOf (classOf x87 x)
 
 -- Demand 3, of the list cs of calls from the dividend x by the divisor y: v and w are their values, and ts the list's accepted calls.
-pub record Demand3 (κ : Kind) (x y : ℕ) (v w : Value) (cs : List Call) (ts : List (Taken ℕ)) : Type 0 where
+pub record EveryList (κ : Kind) (x y : ℕ) (v w : Value) (cs : List Call) (ts : List (Taken ℕ)) : Type 0 where
   -- "Each call goes on from the value the last accepted one gave, and the list ends at its first finished call."
   pub listed : Listed (answer κ y) x cs ts
   -- "says how many steps it took. That number is the number of steps in the defined chain."

@@ -7,7 +7,7 @@ use Rattle.definitions.specs.declared.Kind.{Kind}
 use Rattle.definitions.specs.declared.Kind.the-variants.{Truncated, Nearest}
 
 -- what a remainder, a step or a run comes to: whether it finished, its value, the whole quotient taken, exact, and the number of steps
-pub record Reply : Type 0 where
+pub record Outcome : Type 0 where
   pub done : Bool
   pub value : Value
   pub whole : ℕ
@@ -24,7 +24,7 @@ roundsUp Truncated q r m = false
 roundsUp Nearest q r m = ltb m (2 * r) || (eqb m (2 * r) && eqb (q % 2) 1)
 
 -- "Truncated: Q is |x|/|y| cut to a whole number." "The magnitude rule is x − Q·y with Q given x's and y's combined sign." "A zero result has x's sign."
-unfoldable pub finishBy : Kind → ℕ → Value → Reply
+unfoldable pub finishBy : Kind → ℕ → Value → Outcome
 finishBy κ m x =
     let q = x .count / m in
     let r = x .count % m in
@@ -37,7 +37,7 @@ finishBy κ m x =
     }
 
 -- "If y is infinite and x finite, the result is x with quotient bits 0, in one step."
-unfoldable pub finish : Kind → Divisor → Value → Reply
+unfoldable pub finish : Kind → Divisor → Value → Outcome
 unfolding finishBy
 finish κ unbounded x = record { done = true; value = x; whole = 0; steps = 1 }
 finish κ (by m) x = finishBy κ m x

@@ -126,7 +126,7 @@ abbrev pub largestGap : Format → ℕ
 largestGap f = reach f - 1
 
 -- a count that the format holds: at most `precision` digits from the leading one to the last, and in range
-pub record Held (f : Format) (n : ℕ) : Type 0 where
+pub record Representable (f : Format) (n : ℕ) : Type 0 where
   pub digits : Digits (f .precision) n
   pub range : size n ≤ reach f
 

@@ -7,7 +7,7 @@ pub mod Remainder
 pub mod Steps
 pub mod Reports
 pub mod Calls
-pub mod Cut
+pub mod Round
 pub mod Scale
 pub mod Answers
 pub mod Fold

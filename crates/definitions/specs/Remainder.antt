@@ -5,14 +5,14 @@ use Rattle.definitions.specs.Class.{Class, finite}
 use Rattle.definitions.specs.Format.{Format, classOf, patternOf, houseNan}
 use Rattle.definitions.specs.Numbers.{numberOf, accepted, dividing}
 use Rattle.definitions.specs.declared.Kind.{Kind}
-use Rattle.definitions.specs.Division.{Reply, finish, dividendOf, divisorOf}
+use Rattle.definitions.specs.Division.{Outcome, finish, dividendOf, divisorOf}
 
 -- "Quotient bits are those of |Q| modulo 8."
 abbrev pub quotientModulus : ℕ
 quotientModulus = 8
 
-abbrev pub shown : ℕ → ℕ
-shown q = q % quotientModulus
+abbrev pub quotientBits : ℕ → ℕ
+quotientBits q = q % quotientModulus
 
 -- what a refusal returns as its value: the house NaN, in this one place
 abbrev pub refusedValue : Format → ℕ
@@ -24,12 +24,12 @@ pub record Remainder : Type 0 where
   pub quotient : ℕ
 
 -- an answer for an accepted number, the refusal's values otherwise
-abbrev pub remainderReport : Format → ℕ → Reply → Remainder
+abbrev pub remainderReport : Format → ℕ → Outcome → Remainder
 remainderReport f n r =
     record {
       number = n;
       value = cond (accepted n) (patternOf f (finite (r .value))) (refusedValue f);
-      quotient = cond (accepted n) (shown (r .whole)) 0;
+      quotient = cond (accepted n) (quotientBits (r .whole)) 0;
     }
 
 unfoldable pub remainderOf : Format → Kind → Class → Class → Remainder

@@ -6,8 +6,8 @@ use Rattle.definitions.specs.Class.{Class, finite}
 use Rattle.definitions.specs.Format.{classOf, patternOf, x87}
 use Rattle.definitions.specs.Numbers.{Tests, numberOf, accepted, dividing}
 use Rattle.definitions.specs.declared.Kind.{Kind}
-use Rattle.definitions.specs.Division.{Reply, dividendOf, divisorOf}
-use Rattle.definitions.specs.Remainder.{shown, refusedValue}
+use Rattle.definitions.specs.Division.{Outcome, dividendOf, divisorOf}
+use Rattle.definitions.specs.Remainder.{quotientBits, refusedValue}
 use Rattle.definitions.specs.Steps.{step, run}
 
 -- what a call says: its number, its value, the quotient bits and the steps
@@ -50,19 +50,19 @@ calling l n x y spent partial =
     }
 
 -- "Under 2 to 6 and 8, quotient bits, steps and exponent are 0"
-abbrev pub reportOf : ℕ → Reply → Report ℕ
+abbrev pub reportOf : ℕ → Outcome → Report ℕ
 reportOf n r =
     record {
       number = n;
       value = cond (accepted n) (patternOf x87 (finite (r .value))) (refusedValue x87);
-      quotient = cond (accepted n) (shown (r .whole)) 0;
+      quotient = cond (accepted n) (quotientBits (r .whole)) 0;
       steps = cond (accepted n) (r .steps) 0;
     }
 
-abbrev stepReply : Kind → ℕ → Class → Class → Reply
+abbrev stepReply : Kind → ℕ → Class → Class → Outcome
 stepReply κ n x y = step κ n (divisorOf y) (dividendOf x)
 
-abbrev runReply : Kind → ℕ → ℕ → Class → Class → Reply
+abbrev runReply : Kind → ℕ → ℕ → Class → Class → Outcome
 runReply κ n b x y = run κ n b (divisorOf y) (dividendOf x)
 
 -- a step of size n on the patterns x and y

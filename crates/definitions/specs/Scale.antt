@@ -12,7 +12,7 @@ use Rattle.definitions.specs.Division.{dividendOf}
 use Rattle.definitions.specs.Remainder.{refusedValue}
 use Rattle.definitions.specs.declared.Rounding.{Rounding}
 use Rattle.definitions.specs.declared.Rounding.the-variants.{Exact, Up}
-use Rattle.definitions.specs.Cut.{cut}
+use Rattle.definitions.specs.Round.{round}
 
 -- a scaled value, and how it was rounded
 pub record Scaled : Type 0 where
@@ -26,9 +26,9 @@ bounded f s n says = cond (ltZ (pos (f .bias)) (exponentOf f n)) (record { class
 -- "The exact value x·2^k is rounded once, ties to even; ... only bits below the format's smallest place are rounded away, a value rounded
 -- to nothing being a zero of x's sign."
 unfoldable pub scaleValue : Format → Value → ℤ → Scaled
-unfolding cut
+unfolding round
 scaleValue f v (pos k) = bounded f (v .negative) (v .count * 2 ^ k) Exact
-scaleValue f v (negsuc k) = let c = cut (v .count) (suc k) in bounded f (v .negative) (c .quotient) (c .says)
+scaleValue f v (negsuc k) = let c = round (v .count) (suc k) in bounded f (v .negative) (c .quotient) (c .says)
 
 -- "Zeros and infinities return themselves, exact, for each k."
 unfoldable pub scaleClass : Format → Class → ℤ → Scaled

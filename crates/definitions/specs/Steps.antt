@@ -7,7 +7,7 @@ use lib.IntN.{ℤ, pos, natAbs, _+ℤ_}
 use lib.Signed.{ltZ}
 use Rattle.definitions.specs.Class.{Value, gap, signed, combined}
 use Rattle.definitions.specs.declared.Kind.{Kind}
-use Rattle.definitions.specs.Division.{Reply, Divisor, unbounded, by, finish, finishBy}
+use Rattle.definitions.specs.Division.{Outcome, Divisor, unbounded, by, finish, finishBy}
 
 -- "If D < 64 it finishes as above."
 abbrev pub near : ℤ → Bool
@@ -15,7 +15,7 @@ near D = ltZ D (pos 64)
 
 -- "QQ is |x|/|y|/2^(D−n) cut to a whole number, the value becomes x less QQ·2^(D−n) times y (signs as above), and the quotient part is
 -- QQ·2^(D−n)": here j = D − n. "Both kinds cut in a partial step. A zero partial value keeps x's sign and is still partial."
-unfoldable pub cutAt : ℕ → ℕ → Value → Reply
+unfoldable pub cutAt : ℕ → ℕ → Value → Outcome
 cutAt j m x =
     record {
       done = false;
@@ -28,7 +28,7 @@ cutAt j m x =
 abbrev pub usedSize : ℤ → ℕ → ℕ
 usedSize D n = n
 
-unfoldable pub stepBy : Kind → ℕ → ℕ → Value → Reply
+unfoldable pub stepBy : Kind → ℕ → ℕ → Value → Outcome
 unfolding finishBy cutAt
 stepBy κ n m x =
     let D = gap (x .count) m in
@@ -37,17 +37,17 @@ stepBy κ n m x =
     cond (near D) f c
 
 -- "A step takes x, y, a size n and the kind." An infinite divisor finishes in one step.
-unfoldable pub step : Kind → ℕ → Divisor → Value → Reply
+unfoldable pub step : Kind → ℕ → Divisor → Value → Outcome
 unfolding stepBy finish
 step κ n unbounded x = finish κ unbounded x
 step κ n (by m) x = stepBy κ n m x
 
 -- r, and then s from r's value
-abbrev pub followed : Reply → Reply → Reply
+abbrev pub followed : Outcome → Outcome → Outcome
 followed r s = record { done = s .done; value = s .value; whole = r .whole + s .whole; steps = r .steps + s .steps }
 
 -- "A run repeats steps of one size, with a budget of any 32-bit number. It leaves at the first step that finishes or at the spent budget"
-unfoldable pub run : Kind → ℕ → ℕ → Divisor → Value → Reply
+unfoldable pub run : Kind → ℕ → ℕ → Divisor → Value → Outcome
 unfolding step
 run κ n zero d x = record { done = false; value = x; whole = 0; steps = 0 }
 run κ n (suc b) d x =
@@ -59,7 +59,7 @@ run κ n (suc b) d x =
 pub record Link : Type 0 where
   pub size : ℕ
   pub dividend : Value
-  pub reply : Reply
+  pub reply : Outcome
 
 -- the steps that a run takes, in order
 unfoldable pub chain : Kind → ℕ → ℕ → Divisor → Value → List Link
@@ -94,7 +94,7 @@ pub record Flags : Type 0 where
   pub c2 : Bool
   pub c3 : Bool
 
-abbrev pub flagsOf : Reply → Flags
+abbrev pub flagsOf : Outcome → Flags
 flagsOf r =
     record {
       c0 = eqb (r .whole / 4 % 2) 1;

@@ -10,10 +10,10 @@ use Rattle.definitions.specs.Numbers.{numberOf, checks, first, accepted}
 use Rattle.definitions.specs.Format.{classOf, x87}
 use Rattle.definitions.specs.Division.{dividendOf, divisorOf}
 use Rattle.definitions.specs.Steps.{step, run}
-use Rattle.definitions.specs.Remainder.{shown}
+use Rattle.definitions.specs.Remainder.{quotientBits}
 use Rattle.definitions.specs.Reports.{Report, nothing, block, stepReport, runReport}
 use Rattle.definitions.specs.Block.{blockOf, blockAfter}
-use Rattle.definitions.specs.Answers.{stepTold, runTold}
+use Rattle.definitions.specs.Answers.{stepMeaning, runMeaning}
 use Rattle.definitions.specs.declared.Kind.{Kind}
 use Rattle.definitions.specs.declared.StepAnswer.{StepAnswer}
 use Rattle.definitions.specs.declared.RunAnswer.{RunAnswer}
@@ -56,7 +56,7 @@ misfit R lent e = (e, rw (← e))
 
 -- ---- quotient bits fit a byte
 
-bits-small : (a : Bool) (q : ℕ) → cond a (shown q) 0 < 256
+bits-small : (a : Bool) (q : ℕ) → cond a (quotientBits q) 0 < 256
 bits-small true q = omega arith
 bits-small false q = lit< tt
 
@@ -65,12 +65,12 @@ module _ (κ : Kind) (n x y : ℕ) where
   unfolding stepReport
   step-bits = bits-small (accepted (stepReport nothing κ n x y .number)) (step κ n (divisorOf (classOf x87 y)) (dividendOf (classOf x87 x)) .whole)
 
-  pub step-byte : (a b : StepAnswer) → stepTold a ≡ stepReport nothing κ n x y → a ≡ b → stepTold b .quotient < 256
+  pub step-byte : (a b : StepAnswer) → stepMeaning a ≡ stepReport nothing κ n x y → a ≡ b → stepMeaning b .quotient < 256
   step-byte a b told e = rw (← e, told) step-bits
 
   run-bits : (b : ℕ) → runReport nothing κ n b x y .quotient < 256
   unfolding runReport
   run-bits b = bits-small (accepted (runReport nothing κ n b x y .number)) (run κ n b (divisorOf (classOf x87 y)) (dividendOf (classOf x87 x)) .whole)
 
-  pub run-byte : (budget : ℕ) (a b : RunAnswer) → runTold a ≡ runReport nothing κ n budget x y → a ≡ b → runTold b .quotient < 256
+  pub run-byte : (budget : ℕ) (a b : RunAnswer) → runMeaning a ≡ runReport nothing κ n budget x y → a ≡ b → runMeaning b .quotient < 256
   run-byte budget a b told e = rw (← e, told) (run-bits budget)

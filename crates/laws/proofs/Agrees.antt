@@ -21,12 +21,12 @@ use lib.Ieee.Bits.{ofBits-toBits, ofBits-fits}
 use Rattle.digits.proofs.Tests.{clash, not-zero}
 use Rattle.digits.proofs.Common.{mod-scale}
 use Rattle.definitions.specs.Class.{Value, Class, unsupported, nan, infinite, finite}
-use Rattle.definitions.specs.Format.{Format, Held, Regular, hidden, binary32, binary64, interchangeClass, classOf, patternOf, magnitude}
+use Rattle.definitions.specs.Format.{Format, Representable, Regular, hidden, binary32, binary64, interchangeClass, classOf, patternOf, magnitude}
 use Rattle.definitions.specs.declared.Kind.the-variants.{Truncated}
 use Rattle.definitions.specs.Division.{finishBy, finish}
 use Rattle.definitions.specs.Remainder.{remainderOf, remainder}
 use Rattle.laws.proofs.Regular.{regular32, regular64}
-use Rattle.laws.proofs.Held.{held-count}
+use Rattle.laws.proofs.Representable.{held-count}
 use Rattle.laws.proofs.RoundTrip.{read-held}
 use Rattle.laws.proofs.Division.{finish-held}
 
@@ -87,7 +87,7 @@ mod-units : (n m a b u c : ℕ) → 0 < m → 0 < b → 0 < u → 0 < c → n * 
 mod-units n m a b u c pm pb pu pc e d = sym (mod-scale n m u pm pu) ∙ rw (e, d) (mod-scale a b c pb pc)
 
 -- a count that the format holds is not rounded
-round-held : (g : Ieee.Format) (s : Bool) (n : ℕ) → Held (ours g) n → HasValue (round g s n (2 ^ low g)) s n (2 ^ low g)
+round-held : (g : Ieee.Format) (s : Bool) (n : ℕ) → Representable (ours g) n → HasValue (round g s n (2 ^ low g)) s n (2 ^ low g)
 round-held g s n h =
     let k = size n - prec g in
     let c = held-count (ours g) n h in
@@ -95,7 +95,7 @@ round-held g s n h =
     (rw c (lt-of-lt-of-le (size-lt n) (pow-mono (omega (arith, h .range, two g)))))
     (rw c refl)
 
-pub rem-stands : (g : Ieee.Format) (x y : Value) (v w : Float) → 0 < y .count → Held (ours g) (x .count) → Held (ours g) (y .count)
+pub rem-stands : (g : Ieee.Format) (x y : Value) (v w : Float) → 0 < y .count → Representable (ours g) (x .count) → Representable (ours g) (y .count)
     → Stands g (finite x) v → Stands g (finite y) w → Stands g (finite (finishBy Truncated (y .count) x .value)) (rem g v w)
 unfolding rem finishBy
 rem-stands g x y (fin s m e) (fin t zero d) b hx hy p q = let l = mul-pos b (down-pos d) in clash (omega (arith, q .1))
@@ -151,7 +151,7 @@ unfolding remainderOf finish
 divided f x y h = rw (not-zero (y .count) h)
 
 abbrev ClassHeld : Format → Class → Type 0
-ClassHeld f X = (x : Value) → X ≡ finite x → Held f (x .count)
+ClassHeld f X = (x : Value) → X ≡ finite x → Representable f (x .count)
 
 class-agrees : (g : Ieee.Format) (X Y : Class) (v w : Float) → ClassHeld (ours g) X → ClassHeld (ours g) Y → Stands g X v → Stands g Y w
     → remainderOf (ours g) Truncated X Y .value ≡ toBits g (rem g v w)

@@ -14,10 +14,10 @@ use Rattle.digits.proofs.Size.{size-mono}
 use Rattle.digits.proofs.Digits.{digits-mod, digits-up}
 use Rattle.digits.proofs.Common.{mod-scale, sub-scale, ltb-scale, eqb-scale}
 use Rattle.definitions.specs.Class.{Value, signed, valueOf, combined}
-use Rattle.definitions.specs.Format.{Format, Held}
+use Rattle.definitions.specs.Format.{Format, Representable}
 use Rattle.definitions.specs.declared.Kind.{Kind}
 use Rattle.definitions.specs.declared.Kind.the-variants.{Truncated, Nearest}
-use Rattle.definitions.specs.Division.{Reply, unbounded, roundsUp, finishBy, finish}
+use Rattle.definitions.specs.Division.{Outcome, unbounded, roundsUp, finishBy, finish}
 use Rattle.definitions.specs.Steps.{cutAt}
 
 -- a quotient goes up only from a half of the divisor on
@@ -31,28 +31,28 @@ up-half Nearest q r m e = go (ltb m (2 * r)) (eqb m (2 * r)) refl refl e
     go false false ea eb u = clash (cc)
 
 -- what has few enough digits and is no more than a count that the format holds
-pub held-below : (f : Format) (n v : ℕ) → Held f n → v ≤ n → Digits (f .precision) v → Held f v
+pub held-below : (f : Format) (n v : ℕ) → Representable f n → v ≤ n → Digits (f .precision) v → Representable f v
 held-below f n v h l d = record { digits = d; range = le-trans (size-mono v n l) (h .range) }
 
-left-held : (f : Format) (n m j : ℕ) → 0 < m → Held f m → Held f n → Held f (n % (m * 2 ^ j))
+left-held : (f : Format) (n m j : ℕ) → 0 < m → Representable f m → Representable f n → Representable f (n % (m * 2 ^ j))
 left-held f n m j h hm hn = held-below f n (n % (m * 2 ^ j)) hn (mod-le n (m * 2 ^ j)) (digits-mod (f .precision) n m j h (hn .digits) (hm .digits))
 
 -- a partial value is representable
-pub cut-held : (f : Format) (j m : ℕ) (x : Value) → 0 < m → Held f m → Held f (x .count) → Held f (cutAt j m x .value .count)
+pub cut-held : (f : Format) (j m : ℕ) (x : Value) → 0 < m → Representable f m → Representable f (x .count) → Representable f (cutAt j m x .value .count)
 unfolding cutAt
 cut-held f j m x h hm hx = left-held f (x .count) m j h hm hx
 
 -- "The result is always representable"
-pub finish-held : (f : Format) (κ : Kind) (m : ℕ) (x : Value) → 0 < m → Held f m → Held f (x .count) → Held f (finishBy κ m x .value .count)
+pub finish-held : (f : Format) (κ : Kind) (m : ℕ) (x : Value) → 0 < m → Representable f m → Representable f (x .count) → Representable f (finishBy κ m x .value .count)
 unfolding finishBy
 finish-held f κ m x h hm hx = go (roundsUp κ (n / m) (n % m) m) (up-half κ (n / m) (n % m) m)
   where
     n : ℕ
     n = x .count
 
-    go : (u : Bool) → (u ≡ true → m ≤ 2 * (n % m)) → Held f (cond u (m - n % m) (n % m))
+    go : (u : Bool) → (u ≡ true → m ≤ 2 * (n % m)) → Representable f (cond u (m - n % m) (n % m))
     go true l = held-below f n (m - n % m) hx (omega (arith, l refl, mod-le n m)) (digits-up (f .precision) n m h (hx .digits) (hm .digits) (l refl))
-    go false l = subst (λ (z : ℕ). Held f (n % z)) (mul-one m) (left-held f n m 0 h hm hx)
+    go false l = subst (λ (z : ℕ). Representable f (n % z)) (mul-one m) (left-held f n m 0 h hm hx)
 
 -- ---- the magnitude rule
 
@@ -151,7 +151,7 @@ zero-sign κ m x h = go (roundsUp κ (n / m) (n % m) m)
 abbrev pub finer : ℕ → Value → Value
 finer c v = record { negative = v .negative; count = v .count * c }
 
-abbrev pub finerReply : ℕ → Reply → Reply
+abbrev pub finerReply : ℕ → Outcome → Outcome
 finerReply c r = record { done = r .done; value = finer c (r .value); whole = r .whole; steps = r .steps }
 
 pub up-scale : (κ : Kind) (q r m c : ℕ) → 0 < c → roundsUp κ q (r * c) (m * c) ≡ roundsUp κ q r m

@@ -12,8 +12,8 @@ use lib.Ieee.{size}
 use Rattle.digits.proofs.Tests.{not-zero}
 use Rattle.digits.proofs.Size.{size-zero, size-pos, size-between}
 use Rattle.definitions.specs.Class.{gap}
-use Rattle.definitions.specs.Format.{Format, Held, Regular, exponentOf, largestGap}
-use Rattle.laws.proofs.Held.{largest, size-largest}
+use Rattle.definitions.specs.Format.{Format, Representable, Regular, exponentOf, largestGap}
+use Rattle.laws.proofs.Representable.{largest, size-largest}
 
 -- the difference of two natural numbers is the cut-off one, or negative
 pub sub-cases : (P : ℤ → Type 0) (a b : ℕ) → (b ≤ a → P (pos (a - b))) → ((k : ℕ) → a + suc k ≡ b → P (negsuc k)) → P (pos a -ℤ pos b)
@@ -53,7 +53,7 @@ gap-exponents f n m pn pm =
     rw (not-zero n pn, cancel (f .smallest) (pos (size n - 1)) (pos (size m - 1))) (rw (a, b) at d)
 
 -- no gap of a format's counts is above the largest
-pub gap-bound : (f : Format) (n m : ℕ) → Held f n → 0 < m → T (leZ (gap n m) (pos (largestGap f)))
+pub gap-bound : (f : Format) (n m : ℕ) → Representable f n → 0 < m → T (leZ (gap n m) (pos (largestGap f)))
 gap-bound f n m held pm =
     gap-is (λ D. T (leZ D (pos (largestGap f)))) n m (le→leb (size n - size m) (largestGap f) (omega (arith, size-pos m pm))) (λ k h. tt)
 

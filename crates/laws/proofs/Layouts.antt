@@ -10,7 +10,7 @@ use lib.Pow.{pow-pos}
 use Rattle.digits.proofs.Tests.{clash}
 use Rattle.definitions.specs.Class.{Value, Class, finite, infinite, nan}
 use Rattle.definitions.specs.Format.{Format, Layout, hidden, explicit, Regular, topField, leading, stored, fieldWeight, fieldsClass, body, quiet, infinity}
-use Rattle.laws.proofs.Held.{leading-twice}
+use Rattle.laws.proofs.Representable.{leading-twice}
 
 -- what a field of one or more adds to the stored significand
 abbrev pub hiddenPart : Layout → ℕ → ℕ

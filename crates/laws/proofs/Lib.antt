@@ -1,6 +1,6 @@
 pub mod Regular
 pub mod Gap
-pub mod Held
+pub mod Representable
 pub mod Layouts
 pub mod Fields
 pub mod Pattern
@@ -8,7 +8,7 @@ pub mod RoundTrip
 pub mod Range
 pub mod Division
 pub mod Agrees
-pub mod Cut
+pub mod Round
 pub mod Scaling
 pub mod Splitting
 pub mod Small

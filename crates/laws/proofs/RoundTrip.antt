@@ -7,8 +7,8 @@ use native.Mathlib.Omega.{arith}
 use lib.Dec.{leb}
 use lib.Ieee.{size}
 use Rattle.definitions.specs.Class.{Value, Class, nan, infinite, finite}
-use Rattle.definitions.specs.Format.{Format, Held, Regular, topField, fieldWeight, signWeight, patterns, classOf, withSign, patternOf, houseNan, infinity, quiet, leading}
-use Rattle.laws.proofs.Held.{held-placed, held-count, placed-held, magnitude-placed}
+use Rattle.definitions.specs.Format.{Format, Representable, Regular, topField, fieldWeight, signWeight, patterns, classOf, withSign, patternOf, houseNan, infinity, quiet, leading}
+use Rattle.laws.proofs.Representable.{held-placed, held-count, placed-held, magnitude-placed}
 use Rattle.laws.proofs.Layouts.{number, infinite-top}
 use Rattle.laws.proofs.Fields.{Fields, fields-read, fields-body, fields-field, fields-rest, fields-placed, placed-fields, finite-fields, infinity-rest, quiet-rest, infinity-read, quiet-read}
 use Rattle.laws.proofs.Pattern.{pack, pack-read, pack-small, packed, field-small, rest-small}
@@ -26,28 +26,28 @@ module _ (f : Format) (r : Regular f) where
   read n {e} {t} c = pack-read f e t (fields-field f c) (fields-rest f r c) n ∙ fields-read f n c
 
   -- each value that the format holds is one by its fields
-  by-fields : (P : Class → Type 0) (v : Value) → Held f (v .count) → ((e t j s : ℕ) → Fields f e t j s → P (number (v .negative) j s)) → P (finite v)
+  by-fields : (P : Class → Type 0) (v : Value) → Representable f (v .count) → ((e t j s : ℕ) → Fields f e t j s → P (number (v .negative) j s)) → P (finite v)
   by-fields P v h all =
       let j = size (v .count) - f .precision in
       let c = placed-fields f r (held-placed f r (v .count) h) in
       subst (λ (n : ℕ). P (finite (record { negative = v .negative; count = n }))) (held-count f (v .count) h)
       (all (c .field) (c .rest) j (v .count / 2 ^ j) (c .fields))
 
-  pub read-written : (v : Value) → Held f (v .count) → classOf f (patternOf f (finite v)) ≡ finite v
+  pub read-written : (v : Value) → Representable f (v .count) → classOf f (patternOf f (finite v)) ≡ finite v
   read-written v h =
       by-fields (λ c. classOf f (patternOf f c) ≡ c) v h (λ e t j s c. ap (classOf f) (written (v .negative) c) ∙ read (v .negative) c)
 
-  pub pattern-small : (v : Value) → Held f (v .count) → patternOf f (finite v) < patterns f
+  pub pattern-small : (v : Value) → Representable f (v .count) → patternOf f (finite v) < patterns f
   pattern-small v h =
       by-fields (λ c. patternOf f c < patterns f) v h
       (λ e t j s c. rw (written (v .negative) c) (pack-small f e t (fields-field f c) (fields-rest f r c) (v .negative)))
 
-  pub read-held : (b : ℕ) (v : Value) → classOf f b ≡ finite v → Held f (v .count)
+  pub read-held : (b : ℕ) (v : Value) → classOf f b ≡ finite v → Representable f (v .count)
   unfolding classOf
   read-held b v e =
       let n = leb (signWeight f) b in
       let c = finite-fields f n (b / fieldWeight f % (topField f + 1)) (b % fieldWeight f) v e (field-small f b) (rest-small f b) in
-      subst (Held f) (same-count (record { negative = n; count = c .significand * 2 ^ c .dropped }) v (sym (fields-read f n (c .fields)) ∙ e))
+      subst (Representable f) (same-count (record { negative = n; count = c .significand * 2 ^ c .dropped }) v (sym (fields-read f n (c .fields)) ∙ e))
       (placed-held f (c .dropped) (c .significand) (fields-placed f r (c .fields)))
 
   pub written-read : (b : ℕ) (v : Value) → b < patterns f → classOf f b ≡ finite v → patternOf f (finite v) ≡ b

@@ -17,35 +17,35 @@ use Rattle.digits.proofs.Size.{size-pos, size-shift}
 use Rattle.digits.proofs.Digits.{digits-shift}
 use Rattle.digits.proofs.Common.{shift-back}
 use Rattle.definitions.specs.Class.{Value, Class, unsupported, nan, infinite, finite}
-use Rattle.definitions.specs.Format.{Format, Held, Regular, reach, exponentOf, patterns, classOf, patternOf}
+use Rattle.definitions.specs.Format.{Format, Representable, Regular, reach, exponentOf, patterns, classOf, patternOf}
 use Rattle.definitions.specs.Numbers.{numberOf, checks, first}
 use Rattle.definitions.specs.declared.Rounding.{Rounding}
 use Rattle.definitions.specs.declared.Rounding.the-variants.{Exact, Up, Down}
-use Rattle.definitions.specs.Cut.{Rounded, cut}
+use Rattle.definitions.specs.Round.{Rounded, round}
 use Rattle.definitions.specs.Scale.{Scaled, ScaleReport, bounded, scaleValue, scaleClass, scaleReport}
-use Rattle.laws.proofs.Held.{zero-held}
+use Rattle.laws.proofs.Representable.{zero-held}
 use Rattle.laws.proofs.Gap.{sub-cases}
 use Rattle.laws.proofs.Range.{exponent-above}
 use Rattle.laws.proofs.RoundTrip.{read-held, written-read, written-infinite}
-use Rattle.laws.proofs.Cut.{cut-multiple, cut-nothing, cut-same, cut-digits}
+use Rattle.laws.proofs.Round.{round-multiple, round-nothing, round-same, round-digits}
 
-abbrev pub boundedCut : Format → Bool → Rounded → Scaled
-boundedCut f s c = bounded f s (c .quotient) (c .says)
+abbrev pub boundedRound : Format → Bool → Rounded → Scaled
+boundedRound f s c = bounded f s (c .quotient) (c .says)
 
 -- a power either way is one cut: 2^(a − b) takes the count up by a places, and cuts b
-pub scale-cut : (f : Format) (v : Value) (a b : ℕ) → scaleValue f v (pos a -ℤ pos b) ≡ boundedCut f (v .negative) (cut (v .count * 2 ^ a) b)
+pub scale-round : (f : Format) (v : Value) (a b : ℕ) → scaleValue f v (pos a -ℤ pos b) ≡ boundedRound f (v .negative) (round (v .count * 2 ^ a) b)
 unfolding scaleValue
-scale-cut f v a b = sub-cases (λ k. scaleValue f v k ≡ boundedCut f (v .negative) (cut (v .count * 2 ^ a) b)) a b up down
+scale-round f v a b = sub-cases (λ k. scaleValue f v k ≡ boundedRound f (v .negative) (round (v .count * 2 ^ a) b)) a b up down
   where
     n : ℕ
     n = v .count
 
-    up : b ≤ a → scaleValue f v (pos (a - b)) ≡ boundedCut f (v .negative) (cut (n * 2 ^ a) b)
+    up : b ≤ a → scaleValue f v (pos (a - b)) ≡ boundedRound f (v .negative) (round (n * 2 ^ a) b)
     up h =
-        ap (boundedCut f (v .negative)) (sym (ap (λ (z : ℕ). cut z b) (sym (shift-back n a b h)) ∙ cut-multiple (n * 2 ^ (a - b)) b))
+        ap (boundedRound f (v .negative)) (sym (ap (λ (z : ℕ). round z b) (sym (shift-back n a b h)) ∙ round-multiple (n * 2 ^ (a - b)) b))
 
-    down : (k : ℕ) → a + suc k ≡ b → scaleValue f v (negsuc k) ≡ boundedCut f (v .negative) (cut (n * 2 ^ a) b)
-    down k e = ap (boundedCut f (v .negative)) (cut-same n (suc k) a (n * 2 ^ a) b 0 (sym (mul-one (n * 2 ^ a))) (omega arith))
+    down : (k : ℕ) → a + suc k ≡ b → scaleValue f v (negsuc k) ≡ boundedRound f (v .negative) (round (n * 2 ^ a) b)
+    down k e = ap (boundedRound f (v .negative)) (round-same n (suc k) a (n * 2 ^ a) b 0 (sym (mul-one (n * 2 ^ a))) (omega arith))
 
 -- ---- what is held
 
@@ -54,7 +54,7 @@ abbrev pub HeldClass : Format → Class → Type 0
 HeldClass f unsupported = ⊥
 HeldClass f nan = ⊥
 HeldClass f (infinite s) = Unit {0}
-HeldClass f (finite v) = Held f (v .count)
+HeldClass f (finite v) = Representable f (v .count)
 
 pub bounded-held : (f : Format) → Regular f → (s : Bool) (n : ℕ) (says : Rounding) → Digits (f .precision) n → HeldClass f (bounded f s n says .class)
 bounded-held f r s n says d = go (ltZ (pos (f .bias)) (exponentOf f n)) (exponent-above f r n)
@@ -72,14 +72,14 @@ pub bounded-infinite : (f : Format) → Regular f → (s : Bool) (n : ℕ) (says
     → bounded f s n says ≡ record { class = infinite s; says = Up }
 bounded-infinite f r s n says h = rw (exponent-above f r n, lt-ltb (reach f) (size n) h)
 
-pub scale-held : (f : Format) → Regular f → (v : Value) → Held f (v .count) → (k : ℤ) → HeldClass f (scaleValue f v k .class)
+pub scale-held : (f : Format) → Regular f → (v : Value) → Representable f (v .count) → (k : ℤ) → HeldClass f (scaleValue f v k .class)
 unfolding scaleValue
 scale-held f r v h (pos k) = bounded-held f r (v .negative) (v .count * 2 ^ k) Exact (digits-shift (f .precision) (v .count) k (h .digits))
 scale-held f r v h (negsuc k) =
-    let c = cut (v .count) (suc k) in
-    bounded-held f r (v .negative) (c .quotient) (c .says) (cut-digits (f .precision) (v .count) (suc k) (omega arith) (h .digits))
+    let c = round (v .count) (suc k) in
+    bounded-held f r (v .negative) (c .quotient) (c .says) (round-digits (f .precision) (v .count) (suc k) (omega arith) (h .digits))
 
-pub scale-class-held : (f : Format) → Regular f → (v : Value) → Held f (v .count) → (k : ℤ) → HeldClass f (scaleClass f (finite v) k .class)
+pub scale-class-held : (f : Format) → Regular f → (v : Value) → Representable f (v .count) → (k : ℤ) → HeldClass f (scaleClass f (finite v) k .class)
 unfolding scaleClass
 scale-class-held f r v h k = go (eqb (v .count) 0)
   where
@@ -93,14 +93,14 @@ module _ (f : Format) (r : Regular f) (v : Value) (some : 0 < v .count) (k : ℕ
   unfolding scaleValue
   scale-far-up = bounded-infinite f r (v .negative) (v .count * 2 ^ k) Exact (omega (arith, size-pos (v .count) some, size-shift (v .count) k some))
 
-  pub scale-far-down : Held f (v .count) → scaleValue f v (negsuc k) ≡ record { class = finite (record { negative = v .negative; count = 0 }); says = Down }
+  pub scale-far-down : Representable f (v .count) → scaleValue f v (negsuc k) ≡ record { class = finite (record { negative = v .negative; count = 0 }); says = Down }
   unfolding scaleValue
   scale-far-down h =
       let l : v .count < 2 ^ k = lt-of-lt-of-le (size-lt (v .count)) (pow-mono (le-trans (h .range) far)) in
-      ap (boundedCut f (v .negative)) (cut-nothing (v .count) (suc k) some (omega (arith, two-pow-succ k)))
+      ap (boundedRound f (v .negative)) (round-nothing (v .count) (suc k) some (omega (arith, two-pow-succ k)))
       ∙ bounded-finite f r (v .negative) 0 Down (zero-held f .range)
 
-pub scale-one : (f : Format) → Regular f → (v : Value) → Held f (v .count) → scaleValue f v (pos 0) ≡ record { class = finite v; says = Exact }
+pub scale-one : (f : Format) → Regular f → (v : Value) → Representable f (v .count) → scaleValue f v (pos 0) ≡ record { class = finite v; says = Exact }
 unfolding scaleValue
 scale-one f r v h = rw (mul-one (v .count)) (bounded-finite f r (v .negative) (v .count) Exact (h .range))
 

@@ -7,7 +7,7 @@ use borrow.Author.Tests.{eqb-false}
 use lib.Dec.{eqb}
 use lib.IntN.{ℤ}
 use Rattle.definitions.specs.Class.{Value, Class, unsupported, nan, infinite, finite}
-use Rattle.definitions.specs.Format.{Format, Regular, Held, classOf, patternOf, patterns}
+use Rattle.definitions.specs.Format.{Format, Regular, Representable, classOf, patternOf, patterns}
 use Rattle.definitions.specs.Numbers.{numberOf, checks, first, accepted}
 use Rattle.definitions.specs.Division.{finish, finishBy}
 use Rattle.definitions.specs.Remainder.{remainderOf, remainder, refusedValue}
@@ -23,7 +23,7 @@ abbrev HoldsClass : Format → Class → Type 0
 HoldsClass f unsupported = Unit {0}
 HoldsClass f nan = Unit {0}
 HoldsClass f (infinite n) = Unit {0}
-HoldsClass f (finite v) = Held f (v .count)
+HoldsClass f (finite v) = Representable f (v .count)
 
 module _ (f : Format) (r : Regular f) where
   read-class : (b : ℕ) (c : Class) → classOf f b ≡ c → HoldsClass f c
@@ -34,7 +34,7 @@ module _ (f : Format) (r : Regular f) where
 
   module _ (κ : Kind) where
     -- two values: a zero divisor is refused, and by another the result is representable
-    divided-small : (v w : Value) → Held f (v .count) → Held f (w .count) → remainderOf f κ (finite v) (finite w) .value < patterns f
+    divided-small : (v w : Value) → Representable f (v .count) → Representable f (w .count) → remainderOf f κ (finite v) (finite w) .value < patterns f
     unfolding remainderOf numberOf checks first finish
     divided-small v w hv hw = go (eqb (w .count) 0) refl
       where

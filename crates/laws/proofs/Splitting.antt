@@ -11,14 +11,14 @@ use Rattle.digits.proofs.Tests.{not-zero}
 use Rattle.digits.proofs.Size.{size-pos, size-shift}
 use Rattle.digits.proofs.Digits.{pow-dvd, digits-dvd, digits-shift, digits-unshift}
 use Rattle.definitions.specs.Class.{Value, finite}
-use Rattle.definitions.specs.Format.{Format, Held, Regular, exponentOf, patterns, classOf, patternOf}
+use Rattle.definitions.specs.Format.{Format, Representable, Regular, exponentOf, patterns, classOf, patternOf}
 use Rattle.definitions.specs.Numbers.{numberOf, checks, first}
 use Rattle.definitions.specs.declared.Rounding.the-variants.{Exact}
 use Rattle.definitions.specs.Scale.{scaleValue, scaleReport, significandOf, splitReport}
 use Rattle.laws.proofs.Range.{smallest-is, exponent-is}
 use Rattle.laws.proofs.RoundTrip.{read-held, read-written, written-read}
-use Rattle.laws.proofs.Cut.{cut-multiple}
-use Rattle.laws.proofs.Scaling.{unchanged, scaledReport, scale-cut, scale-finite, bounded-finite}
+use Rattle.laws.proofs.Round.{round-multiple}
+use Rattle.laws.proofs.Scaling.{unchanged, scaledReport, scale-round, scale-finite, bounded-finite}
 
 nat-abs-neg : (n : ℕ) → natAbs (negℤ (pos n)) ≡ n
 nat-abs-neg zero = refl
@@ -37,7 +37,7 @@ pub significand-sign : (f : Format) (v : Value) → significandOf f v .negative 
 unfolding significandOf
 significand-sign f v = refl
 
-module _ (f : Format) (r : Regular f) (v : Value) (some : 0 < v .count) (held : Held f (v .count)) where
+module _ (f : Format) (r : Regular f) (v : Value) (some : 0 < v .count) (held : Representable f (v .count)) where
   -- the count of the significand is the value's own, in another place
   pub significand-count : significandOf f v .count * 2 ^ (size (v .count) - 1) ≡ v .count * 2 ^ onePlace f
   unfolding significandOf
@@ -66,7 +66,7 @@ module _ (f : Format) (r : Regular f) (v : Value) (some : 0 < v .count) (held : 
       let e : size (significandOf f v .count) - 1 ≡ onePlace f = omega (arith, significand-size) in
       exponent-is f r (significandOf f v .count) ∙ rw e (+ℤ-invr (pos (onePlace f)))
 
-  pub significand-held : Held f (significandOf f v .count)
+  pub significand-held : Representable f (significandOf f v .count)
   significand-held =
       let k = size (v .count) - 1 in
       record {
@@ -79,8 +79,8 @@ module _ (f : Format) (r : Regular f) (v : Value) (some : 0 < v .count) (held : 
   -- on values
   pub scale-significand : scaleValue f (significandOf f v) (exponentOf f (v .count)) ≡ record { class = finite v; says = Exact }
   scale-significand =
-      ap (scaleValue f (significandOf f v)) (exponent-is f r (v .count)) ∙ scale-cut f (significandOf f v) (size (v .count) - 1) (onePlace f)
-      ∙ rw (significand-count, cut-multiple (v .count) (onePlace f), significand-sign f v) (bounded-finite f r (v .negative) (v .count) Exact (held .range))
+      ap (scaleValue f (significandOf f v)) (exponent-is f r (v .count)) ∙ scale-round f (significandOf f v) (size (v .count) - 1) (onePlace f)
+      ∙ rw (significand-count, round-multiple (v .count) (onePlace f), significand-sign f v) (bounded-finite f r (v .negative) (v .count) Exact (held .range))
 
 -- "scaling the first by the second says exact and gives the value's own pattern"
 pub split-back : (f : Format) → Regular f → (x : ℕ) → x < patterns f → (v : Value) → classOf f x ≡ finite v → 0 < v .count

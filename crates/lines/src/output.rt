@@ -7,7 +7,7 @@ ghost use mathlib.Core.Path.{_≡_};
 ghost use mathlib.Core.List.{[], _∷_, _++_};
 ghost use Prim.Native.Nat.{_≤_};
 ghost use Rattle.definitions.specs.Format.{binary64};
-ghost use Rattle.definitions.specs.Answers.{remainderTold};
+ghost use Rattle.definitions.specs.Answers.{remainderMeaning};
 ghost use Rattle.definitions.specs.Line.{hexDigits, answerLine, badLine};
 ghost use Rattle.lines.specs.Output.{outputOf};
 
@@ -45,8 +45,8 @@ fn digits_line(value: u64, quotient_digit: u8, number_digit: u8) -> Output
 
 // The line of an answer. Only `answer_line` calls it, with an answer of `remainder64`, whose quotient bits are below 8: one digit.
 pub fn line_of_answer(answer: RemainderAnswer) -> Output
-    requires { ⌜ remainderTold binary64 answer .quotient ≤ 9 ⌝ }
-    ensures { λ r. ⌜ r ≡ outputOf (answerLine (remainderTold binary64 answer)) ⌝ }
+    requires { ⌜ remainderMeaning binary64 answer .quotient ≤ 9 ⌝ }
+    ensures { λ r. ⌜ r ≡ outputOf (answerLine (remainderMeaning binary64 answer)) ⌝ }
 {
     match answer {
         RemainderAnswer::Finished { value, quotient } => {

@@ -10,7 +10,7 @@ use Rattle.definitions.specs.Class.{Value, Class, unsupported, nan, infinite, f
 use Rattle.definitions.specs.Format.{Format, Layout, hidden, explicit, binary64, classOf, fieldsClass, topField, houseNan}
 use Rattle.definitions.specs.Numbers.{numberOf, checks, first, accepted, dividing, isUnsupported, isNan, isInfinite, isZero}
 use Rattle.definitions.specs.Remainder.{Remainder, remainderOf, remainder}
-use Rattle.definitions.specs.Answers.{remainderTold}
+use Rattle.definitions.specs.Answers.{remainderMeaning}
 use Rattle.definitions.specs.Fold.{bad, resultAt, byteAt}
 use Rattle.definitions.specs.declared.Kind.{Kind}
 use Rattle.definitions.specs.declared.Refusal.{Refusal}
@@ -75,18 +75,18 @@ module _ (κ : Kind) (y x : ℕ) (d : divisorNumber (classOf binary64 y) ≡ 0) 
   unfolding remainder remainderOf
   accepts-good = accepts (classOf binary64 x) (classOf binary64 y) (supported binary64 x refl) (supported binary64 y refl) d
 
-  pub finished : (v q : ℕ) → remainderTold binary64 (Finished v q) ≡ remainder binary64 κ x y → record { value = v; byte = q } ≡ placeAt κ y x
-  unfolding remainderTold resultAt byteAt
+  pub finished : (v q : ℕ) → remainderMeaning binary64 (Finished v q) ≡ remainder binary64 κ x y → record { value = v; byte = q } ≡ placeAt κ y x
+  unfolding remainderMeaning resultAt byteAt
   finished v q e =
       let g : bad x ≡ false = opposite (bad x) true (ap (λ (r : Remainder). accepted (r .number)) e ∙ accepts-good) in
       ap (λ (r : Remainder). record { value = r .value; byte = r .quotient }) e ∙ sym (rw g)
 
-  pub finished-small : (v q : ℕ) → remainderTold binary64 (Finished v q) ≡ remainder binary64 κ x y → q < 8
-  unfolding remainderTold
+  pub finished-small : (v q : ℕ) → remainderMeaning binary64 (Finished v q) ≡ remainder binary64 κ x y → q < 8
+  unfolding remainderMeaning
   finished-small v q e = rw (ap (λ (r : Remainder). r .quotient) e) (quotient-small binary64 κ x y)
 
-  pub refused : (w : Refusal) → remainderTold binary64 (Refused w) ≡ remainder binary64 κ x y → record { value = houseNan binary64; byte = 255 } ≡ placeAt κ y x
-  unfolding remainderTold resultAt byteAt
+  pub refused : (w : Refusal) → remainderMeaning binary64 (Refused w) ≡ remainder binary64 κ x y → record { value = houseNan binary64; byte = 255 } ≡ placeAt κ y x
+  unfolding remainderMeaning resultAt byteAt
   refused w e =
       let g : bad x ≡ true = opposite (bad x) false (sym (refusal-refuses w) ∙ ap (λ (r : Remainder). accepted (r .number)) e ∙ accepts-good) in
       ap (λ (r : Remainder). record { value = r .value; byte = 255 }) e ∙ sym (rw g)

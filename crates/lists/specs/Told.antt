@@ -4,5 +4,5 @@ use mathlib.Core.List.{List}
 use Rattle.definitions.specs.Fold.{Folded}
 use Rattle.lists.specs.declared.ListAnswer.{ListAnswer}
 
-abbrev pub foldTold : ListAnswer → List ℕ → List ℕ → Folded
-foldTold a results quotients = record { number = a .number; results = results; quotients = quotients; marked = a .marked }
+abbrev pub foldMeaning : ListAnswer → List ℕ → List ℕ → Folded
+foldMeaning a results quotients = record { number = a .number; results = results; quotients = quotients; marked = a .marked }

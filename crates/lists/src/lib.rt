@@ -8,7 +8,7 @@ ghost use mathlib.Core.Path.{_≡_};
 ghost use lib.ListN.{length};
 ghost use Rattle.definitions.specs.Format.{classOf, binary64};
 ghost use Rattle.definitions.specs.Fold.{foldList};
-ghost use Rattle.lists.specs.Told.{foldTold};
+ghost use Rattle.lists.specs.Told.{foldMeaning};
 ghost use Rattle.lists.specs.Places.{divisorNumber, numberBy, placeAt, Filled};
 
 // Document 01's number for the whole list, and how many places have a NaN or infinite dividend.
@@ -83,7 +83,7 @@ pub fn fold64(
     y: u64,
     kind: Kind,
 ) -> ListAnswer
-    ensures { λ r. ⌜ foldTold r (now (results .exit)) (now (quotients .exit)) ≡ foldList kind y (now (x .entry)) (now (results .entry)) (now (quotients .entry)) ⌝ }
+    ensures { λ r. ⌜ foldMeaning r (now (results .exit)) (now (quotients .exit)) ≡ foldList kind y (now (x .entry)) (now (results .entry)) (now (quotients .entry)) ⌝ }
 {
     if results.len() != x.len() {
         return ListAnswer {

@@ -7,7 +7,7 @@ use lib.IntN.{ℤ, negsuc}
 use lib.Signed.{mag, ltZ}
 use Rattle.digits.specs.Digits.{Digits}
 use Rattle.definitions.specs.Class.{Value, finite}
-use Rattle.definitions.specs.Division.{Reply, roundsUp}
+use Rattle.definitions.specs.Division.{Outcome, roundsUp}
 use Rattle.definitions.specs.declared.Kind.{Kind}
 use Rattle.definitions.specs.declared.Kind.the-variants.{Truncated, Nearest}
 use Rattle.division.specs.declared.Divided.{Divided}
@@ -29,7 +29,7 @@ pub record Unpacks (s : ℤ) (v : Value) (u : Unpacked) : Type 0 where
   pub is : u ≡ unpackedOf s v
 
 -- what a reply is, on its way
-abbrev pub leftOf : ℤ → Reply → Left
+abbrev pub leftOf : ℤ → Outcome → Left
 leftOf s r = record { value = operandOf s (finite (r .value)); quotient = r .whole % 2 ^ 32 }
 
 -- a left-over of the divisor b, both in units of 2 ^ (e − 63)

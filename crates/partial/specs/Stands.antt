@@ -1,8 +1,8 @@
 -- How the code holds an x87 value on its way. Nothing to believe: these only name the code's own values.
 use mathlib.Core.Bool.{true}
 use Rattle.definitions.specs.Class.{Value}
-use Rattle.definitions.specs.Format.{Held, x87}
-use Rattle.definitions.specs.Division.{Reply, dividendOf}
+use Rattle.definitions.specs.Format.{Representable, x87}
+use Rattle.definitions.specs.Division.{Outcome, dividendOf}
 use Rattle.operands.specs.declared.Unpacked.{Unpacked}
 use Rattle.operands.specs.declared.Operand.{Operand}
 use Rattle.operands.specs.declared.Operand.the-variants.{Unsupported, Nan, Infinite, Zero, Finite}
@@ -20,7 +20,7 @@ valueOperand o = dividendOf (classIn (x87 .smallest) o)
 -- an operand that is a value of the format, and is written as `formats` unpacks it
 pub record Stands (u : Unpacked) : Type 0 where
   pub unpacks : Unpacks (x87 .smallest) (valueIn u) u
-  pub held : Held x87 (valueIn u .count)
+  pub held : Representable x87 (valueIn u .count)
 
 abbrev pub StandsOperand : Operand → Type 0
 StandsOperand Unsupported = ⊥
@@ -30,7 +30,7 @@ StandsOperand (Zero n) = Unit {0}
 StandsOperand (Finite u) = Stands u
 
 -- a step's reply, on its way
-abbrev pub steppedOf : Reply → Stepped
+abbrev pub steppedOf : Outcome → Stepped
 steppedOf r = record { done = r .done; left = leftOf (x87 .smallest) r }
 
 -- a step that takes nothing off

@@ -27,7 +27,7 @@ pub struct Stepped {
 }
 
 // The low 32 bits of a quotient part that ends in so many zeros.
-fn raised(quotient: u32, places: u32) -> u32
+fn shifted(quotient: u32, places: u32) -> u32
     ensures { λ r. ⌜ r ≡ quotient * 2 ^ places % 2 ^ 32 ⌝ }
 {
     if 32 <= places {
@@ -52,7 +52,7 @@ fn cut_pair(x: Unpacked, y: Unpacked, size: u32, d: i32) -> Left
     let value = left.value;
     Left {
         value,
-        quotient: raised(left.quotient, (d as u32) - size),
+        quotient: shifted(left.quotient, (d as u32) - size),
     }
 }
 

@@ -10,10 +10,10 @@ use Rattle.digits.specs.Digits.{Digits}
 use Rattle.digits.proofs.Digits.{digits-more}
 use Rattle.digits.proofs.Signed.{mag-add}
 use Rattle.definitions.specs.Class.{Value, Class, unsupported, nan, infinite, finite}
-use Rattle.definitions.specs.Format.{Format, Regular, Held, classOf, patternOf, reach, x87}
+use Rattle.definitions.specs.Format.{Format, Regular, Representable, classOf, patternOf, reach, x87}
 use Rattle.definitions.specs.Numbers.{numberOf, dividing, accepted}
-use Rattle.definitions.specs.Division.{Reply, finish, finishBy, unbounded, dividendOf, divisorOf}
-use Rattle.definitions.specs.Remainder.{remainderOf, remainder, refusedValue, shown}
+use Rattle.definitions.specs.Division.{Outcome, finish, finishBy, unbounded, dividendOf, divisorOf}
+use Rattle.definitions.specs.Remainder.{remainderOf, remainder, refusedValue, quotientBits}
 use Rattle.definitions.specs.Answers.{refusalNumber}
 use Rattle.definitions.specs.declared.Kind.{Kind}
 use Rattle.definitions.specs.declared.Refusal.{Refusal}
@@ -41,7 +41,7 @@ pub record Within (f : Format) : Type 0 where
   pub range : reach f ≤ 2 ^ 16
 
 module _ (f : Format) (ok : Within f) where
-  pub held-fits : (n : ℕ) → Held f n → Digits 64 n
+  pub held-fits : (n : ℕ) → Representable f n → Digits 64 n
   held-fits n h = digits-more (f .precision) 64 n (ok .word) (h .digits)
 
   fits-of : (b : ℕ) (c : Class) → classOf f b ≡ c → Fits64 c
@@ -58,7 +58,7 @@ module _ (f : Format) (ok : Within f) where
       (judged (f .smallest) (classOf f x) (classOf f y) (fits-of x (classOf f x) refl) (fits-of y (classOf f y) refl))
 
   -- an unpacked value is within the code's range
-  pub ready : (v : Value) (u : Unpacked) → Held f (v .count) → Unpacks (f .smallest) v u → Ready u
+  pub ready : (v : Value) (u : Unpacked) → Representable f (v .count) → Unpacks (f .smallest) v u → Ready u
   unfolding unpackedOf
   ready v u h p =
       rw (p .is) (record {
@@ -68,10 +68,10 @@ module _ (f : Format) (ok : Within f) where
       })
 
   -- what is packed of a held value
-  pub packs : (v : Value) (o : Operand) → Held f (v .count) → o ≡ operandOf (f .smallest) (finite v) → PackableOperand (f .smallest) (reach f) o
+  pub packs : (v : Value) (o : Operand) → Representable f (v .count) → o ≡ operandOf (f .smallest) (finite v) → PackableOperand (f .smallest) (reach f) o
   packs v o h e = rw e (packable-operand (f .smallest) v (reach f) (h .range))
 
-  pub pattern-is : (v : Value) (o : Operand) → Held f (v .count) → o ≡ operandOf (f .smallest) (finite v) → patternOf f (classIn (f .smallest) o) ≡ patternOf f (finite v)
+  pub pattern-is : (v : Value) (o : Operand) → Representable f (v .count) → o ≡ operandOf (f .smallest) (finite v) → patternOf f (classIn (f .smallest) o) ≡ patternOf f (finite v)
   pattern-is v o h e = rw e (ap (patternOf f) (class-back (f .smallest) v (held-fits (v .count) h)))
 
   module _ (x y : ℕ) where
@@ -79,10 +79,10 @@ module _ (f : Format) (ok : Within f) where
     returned-packs o j = packs (j .value) o (read-held f (ok .regular) x (j .value) (j .dividend)) (j .operand)
 
     module _ (a b : Unpacked) (j : Divides (f .smallest) (classOf f x) (classOf f y) a b) where
-      dividend-held : Held f (j .value .count)
+      dividend-held : Representable f (j .value .count)
       dividend-held = read-held f (ok .regular) x (j .value) (j .dividend-is)
 
-      divisor-held : Held f (j .divisor .count)
+      divisor-held : Representable f (j .divisor .count)
       divisor-held = read-held f (ok .regular) y (j .divisor) (j .divisor-is)
 
       pub both-ready : Ready a × Ready b
@@ -95,8 +95,8 @@ module _ (f : Format) (ok : Within f) where
       refused w e = rw (e, refusal-refuses w)
 
       -- an accepted pair: its reply, written down
-      answered : (r : Reply) → numberOf (dividing (classOf f x) (classOf f y)) ≡ 0 → finish κ (divisorOf (classOf f y)) (dividendOf (classOf f x)) ≡ r
-          → record { number = 0; value = patternOf f (finite (r .value)); quotient = shown (r .whole) } ≡ remainder f κ x y
+      answered : (r : Outcome) → numberOf (dividing (classOf f x) (classOf f y)) ≡ 0 → finish κ (divisorOf (classOf f y)) (dividendOf (classOf f x)) ≡ r
+          → record { number = 0; value = patternOf f (finite (r .value)); quotient = quotientBits (r .whole) } ≡ remainder f κ x y
       unfolding remainder remainderOf
       answered r e q = rw (e, q)
 
@@ -111,10 +111,10 @@ module _ (f : Format) (ok : Within f) where
 
       -- two values divided
       module _ (a b : Unpacked) (j : Divides (f .smallest) (classOf f x) (classOf f y) a b) where
-        reply : Reply
+        reply : Outcome
         reply = finishBy κ (j .divisor .count) (j .value)
 
-        reply-held : Held f (reply .value .count)
+        reply-held : Representable f (reply .value .count)
         unfolding reply
         reply-held = finish-held f κ (j .divisor .count) (j .value) (j .by-divisor .some) (divisor-held a b j) (dividend-held a b j)
 
@@ -129,7 +129,7 @@ module _ (f : Format) (ok : Within f) where
           pub divided : record { number = 0; value = patternOf f (classIn (f .smallest) (l .value)); quotient = l .quotient % 8 } ≡ remainder f κ x y
           unfolding reply finish
           divided =
-              let q : l .quotient % 8 ≡ shown (reply .whole) = ap (λ (z : Left). z .quotient % 8) left-is ∙ omega arith in
+              let q : l .quotient % 8 ≡ quotientBits (reply .whole) = ap (λ (z : Left). z .quotient % 8) left-is ∙ omega arith in
               (λ i. record { number = 0; value = pattern-is (reply .value) (l .value) reply-held (ap (λ (z : Left). z .value) left-is) i; quotient = q i })
               ∙ answered reply (j .accepted) (λ i. finish κ (divisorOf (j .divisor-is i)) (dividendOf (j .dividend-is i)))
 

@@ -18,7 +18,7 @@ ghost use mathlib.Core.Path.{_≡_};
 ghost use Prim.Native.Nat.{_<_};
 ghost use Rattle.definitions.specs.Format.{binary16, binary32, binary64, x87, patterns};
 ghost use Rattle.definitions.specs.Remainder.{remainder};
-ghost use Rattle.definitions.specs.Answers.{remainderTold, remainderTold80, joined};
+ghost use Rattle.definitions.specs.Answers.{remainderMeaning, remainderMeaning80, joined};
 ghost use Rattle.formats.specs.Shape.{formatOf, Sound};
 
 // How many values of the quotient an answer tells apart.
@@ -27,7 +27,7 @@ pub const QUOTIENT_MODULUS: u32 = 8;
 // Only the three functions below call it, each with its own shape.
 fn remainder_in(shape: Shape, x: u64, y: u64, kind: Kind) -> RemainderAnswer
     requires { ⌜ Sound shape × (x < patterns (formatOf shape)) × (y < patterns (formatOf shape)) ⌝ }
-    ensures { λ r. ⌜ remainderTold (formatOf shape) r ≡ remainder (formatOf shape) kind x y ⌝ }
+    ensures { λ r. ⌜ remainderMeaning (formatOf shape) r ≡ remainder (formatOf shape) kind x y ⌝ }
 {
     match examine(unpack(shape, x), unpack(shape, y)) {
         Examined::Refused(why) => RemainderAnswer::Refused(why),
@@ -47,25 +47,25 @@ fn remainder_in(shape: Shape, x: u64, y: u64, kind: Kind) -> RemainderAnswer
 }
 
 pub fn remainder16(x: u16, y: u16, kind: Kind) -> RemainderAnswer
-    ensures { λ r. ⌜ remainderTold binary16 r ≡ remainder binary16 kind x y ⌝ }
+    ensures { λ r. ⌜ remainderMeaning binary16 r ≡ remainder binary16 kind x y ⌝ }
 {
     remainder_in(Binary16::shape(), x as u64, y as u64, kind)
 }
 
 pub fn remainder32(x: u32, y: u32, kind: Kind) -> RemainderAnswer
-    ensures { λ r. ⌜ remainderTold binary32 r ≡ remainder binary32 kind x y ⌝ }
+    ensures { λ r. ⌜ remainderMeaning binary32 r ≡ remainder binary32 kind x y ⌝ }
 {
     remainder_in(Binary32::shape(), x as u64, y as u64, kind)
 }
 
 pub fn remainder64(x: u64, y: u64, kind: Kind) -> RemainderAnswer
-    ensures { λ r. ⌜ remainderTold binary64 r ≡ remainder binary64 kind x y ⌝ }
+    ensures { λ r. ⌜ remainderMeaning binary64 r ≡ remainder binary64 kind x y ⌝ }
 {
     remainder_in(Binary64::shape(), x, y, kind)
 }
 
 pub fn remainder80(x: Extended, y: Extended, kind: Kind) -> RemainderAnswer80
-    ensures { λ r. ⌜ remainderTold80 r ≡ remainder x87 kind (joined x) (joined y) ⌝ }
+    ensures { λ r. ⌜ remainderMeaning80 r ≡ remainder x87 kind (joined x) (joined y) ⌝ }
 {
     match examine80(x, y) {
         Examined::Refused(why) => RemainderAnswer80::Refused(why),

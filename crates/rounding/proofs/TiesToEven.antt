@@ -9,12 +9,12 @@ use borrow.Author.Tests.{ltb-true, eqb-true}
 use lib.Dec.{ltb, eqb}
 use lib.Pow.{pow-pos}
 use Rattle.definitions.specs.Division.{roundsUp}
-use Rattle.definitions.specs.Cut.{cut, direction}
+use Rattle.definitions.specs.Round.{round, direction}
 use Rattle.definitions.specs.declared.Kind.the-variants.{Nearest}
 use Rattle.definitions.specs.declared.Rounding.the-variants.{Exact, Up, Down}
 use Rattle.laws.proofs.Division.{rounds-up-once}
-use Rattle.rounding.specs.Cut.{cutOf, roundedOf}
-use Rattle.rounding.specs.declared.Cut.{Cut}
+use Rattle.rounding.specs.Round.{roundOf, roundedOf}
+use Rattle.rounding.specs.declared.RoundedWord.{RoundedWord}
 
 module _ (q r m : ℕ) where
   -- the definition's answer is the code's: where nothing is left over, the test fails
@@ -23,7 +23,7 @@ module _ (q r m : ℕ) where
   rounded-once h = rw (rounds-up-once q r m) (go (ltb m (r * 2 + q % 2)) (eqb r 0) refl refl)
     where
       go : (up none : Bool) → ltb m (r * 2 + q % 2) ≡ up → eqb r 0 ≡ none
-          → _≡_ {A = Cut} (record { quotient = cond up (q + 1) q; says = direction none up })
+          → _≡_ {A = RoundedWord} (record { quotient = cond up (q + 1) q; says = direction none up })
           (cond none (record { quotient = q; says = Exact }) (cond up (record { quotient = q + 1; says = Up }) (record { quotient = q; says = Down })))
       go true true e f = absurd (omega (arith, ltb-true m (r * 2 + q % 2) e, eqb-true r 0 f))
       go false true e f = refl
@@ -32,14 +32,14 @@ module _ (q r m : ℕ) where
 
 module _ (n k : ℕ) where
   -- the cut is one rounding of the quotient and the remainder by the power
-  pub cut-rounded : cutOf n k ≡ roundedOf (n / 2 ^ k) (n % 2 ^ k) (ltb (2 ^ k) (n % 2 ^ k * 2 + n / 2 ^ k % 2))
-  unfolding cut
-  cut-rounded = rounded-once (n / 2 ^ k) (n % 2 ^ k) (2 ^ k) (pow-pos k)
+  pub round-rounded : roundOf n k ≡ roundedOf (n / 2 ^ k) (n % 2 ^ k) (ltb (2 ^ k) (n % 2 ^ k * 2 + n / 2 ^ k % 2))
+  unfolding round
+  round-rounded = rounded-once (n / 2 ^ k) (n % 2 ^ k) (2 ^ k) (pow-pos k)
 
   -- all of n is cut off
-  pub cut-whole : n < 2 ^ k → cutOf n k ≡ roundedOf 0 n (ltb (2 ^ k) (n * 2))
-  cut-whole h = rw (div-eq-of-lt h, mod-eq-of-lt h, add-zero) at cut-rounded
+  pub round-whole : n < 2 ^ k → roundOf n k ≡ roundedOf 0 n (ltb (2 ^ k) (n * 2))
+  round-whole h = rw (div-eq-of-lt h, mod-eq-of-lt h, add-zero) at round-rounded
 
   -- a quotient with something left over can go up
-  pub cut-room : 0 < n % 2 ^ k → n / 2 ^ k < n
-  cut-room h = div-lt-self (omega (arith, mod-le n (2 ^ k))) (omega (arith, mod-lt n (pow-pos k)))
+  pub round-room : 0 < n % 2 ^ k → n / 2 ^ k < n
+  round-room h = div-lt-self (omega (arith, mod-le n (2 ^ k))) (omega (arith, mod-lt n (pow-pos k)))

@@ -1,32 +1,32 @@
-// The ties-to-even cut of a word by a number of binary places.
+// A word rounded by a number of binary places, ties to even.
 use definitions::Rounding;
 ghost use mathlib.Core.Path.{_≡_};
 ghost use Prim.Native.Nat.{_+_, _<_, _^_};
-ghost use Rattle.rounding.specs.Cut.{cutOf, roundedOf};
+ghost use Rattle.rounding.specs.Round.{roundOf, roundedOf};
 
-pub struct Cut {
+pub struct RoundedWord {
     pub quotient: u64,
     pub says: Rounding,
 }
 
-// A cut quotient with what was left over, and whether it goes up.
-fn rounded(quotient: u64, remainder: u64, up: bool) -> Cut
+// A quotient with what was left over, and whether it goes up.
+fn rounded(quotient: u64, remainder: u64, up: bool) -> RoundedWord
     requires { ⌜ (0 < remainder → quotient + 1 < 2 ^ 64) ⌝ }
     ensures { λ r. ⌜ r ≡ roundedOf quotient remainder up ⌝ }
 {
     if remainder == 0 {
-        return Cut {
+        return RoundedWord {
             quotient,
             says: Rounding::Exact,
         };
     }
     if up {
-        Cut {
+        RoundedWord {
             quotient: quotient + 1,
             says: Rounding::Up,
         }
     } else {
-        Cut {
+        RoundedWord {
             quotient,
             says: Rounding::Down,
         }
@@ -34,8 +34,8 @@ fn rounded(quotient: u64, remainder: u64, up: bool) -> Cut
 }
 
 // n / 2^places to the nearest whole number, a half going to the even one. An odd quotient goes up at the half and an even one past it.
-pub fn cut_places(n: u64, places: u32) -> Cut
-    ensures { λ r. ⌜ r ≡ cutOf n places ⌝ }
+pub fn round_places(n: u64, places: u32) -> RoundedWord
+    ensures { λ r. ⌜ r ≡ roundOf n places ⌝ }
 {
     if 64 < places {
         return rounded(0, n, false);

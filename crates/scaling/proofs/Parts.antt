@@ -11,7 +11,7 @@ use lib.Ieee.{size}
 use Rattle.digits.proofs.Digits.{digits-more}
 use Rattle.digits.proofs.Signed.{above-small}
 use Rattle.definitions.specs.Class.{Value, Class, unsupported, nan, infinite, finite}
-use Rattle.definitions.specs.Format.{Format, Held, reach, exponentOf, classOf, patternOf}
+use Rattle.definitions.specs.Format.{Format, Representable, reach, exponentOf, classOf, patternOf}
 use Rattle.definitions.specs.Numbers.{numberOf, checks, first}
 use Rattle.definitions.specs.Remainder.{refusedValue}
 use Rattle.definitions.specs.Answers.{refusalNumber}
@@ -29,7 +29,7 @@ use Rattle.scaling.specs.declared.operand.SplitOperand.the-variants as s
 use Rattle.scaling.proofs.Told.{spans, class-holds, class-packable}
 
 module _ (f : Format) (ok : Scalable f (f .bias) (f .smallest)) where
-  module _ (v : Value) (some : 0 < v .count) (held : Held f (v .count)) where
+  module _ (v : Value) (some : 0 < v .count) (held : Representable f (v .count)) where
     -- the split significand has the operand's own significand, at the place of 1
     own-lead : lead (significandOf f v .count) ≡ lead (v .count)
     own-lead =
@@ -84,7 +84,7 @@ module _ (f : Format) (ok : Scalable f (f .bias) (f .smallest)) where
     unfolding splitReport numberOf checks first
     split-none v e none = rw (zero-operand (f .smallest) v none, e, eq-eqb (v .count) 0 none)
 
-    split-some : (v : Value) → classOf f x ≡ finite v → Held f (v .count) → 0 < v .count → Told (splitOf (operandOf (f .smallest) (finite v)))
+    split-some : (v : Value) → classOf f x ≡ finite v → Representable f (v .count) → 0 < v .count → Told (splitOf (operandOf (f .smallest) (finite v)))
     split-some v e held some =
         let s = f .smallest in
         let sig = significandOf f v in

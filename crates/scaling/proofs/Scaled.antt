@@ -12,21 +12,21 @@ use Rattle.digits.proofs.Digits.{digits-more}
 use Rattle.digits.proofs.Common.{shift-shift, shift-back}
 use Rattle.digits.proofs.Size.{size-pos, size-mono, size-shift}
 use Rattle.definitions.specs.Class.{Value, finite}
-use Rattle.definitions.specs.Format.{Format, Held, reach}
-use Rattle.definitions.specs.Cut.{Rounded, cut}
+use Rattle.definitions.specs.Format.{Format, Representable, reach}
+use Rattle.definitions.specs.Round.{Rounded, round}
 use Rattle.definitions.specs.Scale.{scaleValue}
 use Rattle.definitions.specs.declared.Rounding.the-variants.{Exact, Up}
 use Rattle.laws.proofs.Range.{smallest-is}
-use Rattle.laws.proofs.Cut.{cut-multiple, cut-same, cut-le}
-use Rattle.laws.proofs.Scaling.{boundedCut, scale-cut, bounded-finite, bounded-infinite}
+use Rattle.laws.proofs.Round.{round-multiple, round-same, round-le}
+use Rattle.laws.proofs.Scaling.{boundedRound, scale-round, bounded-finite, bounded-infinite}
 use Rattle.operands.specs.Operand.{operandOf, normalOf, placeIn}
 use Rattle.operands.proofs.Lead.{lead, lead-word, lead-exact}
 use Rattle.operands.proofs.Normal.{normal-operand}
 use Rattle.operands.specs.declared.Operand.the-variants.{Infinite}
 use Rattle.scaling.specs.declared.operand.ScaledOperand.the-variants.{Scaled}
-use Rattle.scaling.specs.Power.{far, raisedOf}
+use Rattle.scaling.specs.Power.{far, offsetOf}
 use Rattle.scaling.specs.Operands.{Scalable, scaledOf}
-use Rattle.scaling.proofs.Powers.{scale-raised}
+use Rattle.scaling.proofs.Powers.{scale-offset}
 
 module _ (f : Format) (bias : ℕ) (s : ℤ) (ok : Scalable f bias s) where
   -- the place of the largest exponent
@@ -36,35 +36,35 @@ module _ (f : Format) (bias : ℕ) (s : ℤ) (ok : Scalable f bias s) where
       let a : pos bias -ℤ s ≡ pos (f .bias + z) = rw (ok .bias-is, ok .smallest-is, smallest-is f (ok .regular), negℤ-negℤ (pos z)) in
       rw a (omega (arith, ok .regular .digits))
 
-  module _ (v : Value) (held : Held f (v .count)) (some : 0 < v .count) (k : ℤ) where
+  module _ (v : Value) (held : Representable f (v .count)) (some : 0 < v .count) (k : ℤ) where
     abbrev pub n : ℕ
     n = v .count
 
     -- the cut that the definition makes
     abbrev whole : Rounded
-    whole = cut (n * 2 ^ raisedOf k) far
+    whole = round (n * 2 ^ offsetOf k) far
 
-    scaled-cut : scaleValue f v k ≡ boundedCut f (v .negative) whole
-    scaled-cut = scale-raised f (ok .regular) v some held (omega (arith, ok .narrow, ok .short)) k ∙ scale-cut f v (raisedOf k) far
+    scaled-round : scaleValue f v k ≡ boundedRound f (v .negative) whole
+    scaled-round = scale-offset f (ok .regular) v some held (omega (arith, ok .narrow, ok .short)) k ∙ scale-round f v (offsetOf k) far
 
     -- upwards it is exact, and downwards it makes the count no larger
-    up-exact : far ≤ raisedOf k → whole ≡ record { quotient = n * 2 ^ (raisedOf k - far); says = Exact }
-    up-exact h = ap (λ (z : ℕ). cut z far) (sym (shift-back n (raisedOf k) far h)) ∙ cut-multiple (n * 2 ^ (raisedOf k - far)) far
+    up-exact : far ≤ offsetOf k → whole ≡ record { quotient = n * 2 ^ (offsetOf k - far); says = Exact }
+    up-exact h = ap (λ (z : ℕ). round z far) (sym (shift-back n (offsetOf k) far h)) ∙ round-multiple (n * 2 ^ (offsetOf k - far)) far
 
-    down-le : raisedOf k < far → whole .quotient ≤ n
+    down-le : offsetOf k < far → whole .quotient ≤ n
     down-le h =
-        let e : cut n (far - raisedOf k) ≡ whole = cut-same n (far - raisedOf k) (raisedOf k) (n * 2 ^ raisedOf k) far 0 (sym (mul-one (n * 2 ^ raisedOf k))) (omega arith) in
-        rw e at (cut-le n (far - raisedOf k))
+        let e : round n (far - offsetOf k) ≡ whole = round-same n (far - offsetOf k) (offsetOf k) (n * 2 ^ offsetOf k) far 0 (sym (mul-one (n * 2 ^ offsetOf k))) (omega arith) in
+        rw e at (round-le n (far - offsetOf k))
 
     -- the place that the code counts
     abbrev pub place : ℕ
-    place = size n - 1 + raisedOf k
+    place = size n - 1 + offsetOf k
 
     whole-size : place < reach f + far → size (whole .quotient) ≤ reach f
-    whole-size h = go (leb far (raisedOf k)) (leb→le far (raisedOf k)) (nleb→lt far (raisedOf k))
+    whole-size h = go (leb far (offsetOf k)) (leb→le far (offsetOf k)) (nleb→lt far (offsetOf k))
       where
-        go : (t : Bool) → (T t → far ≤ raisedOf k) → (T (not t) → raisedOf k < far) → size (whole .quotient) ≤ reach f
-        go true a b = rw (up-exact (a tt)) (omega (arith, size-pos n some, size-shift n (raisedOf k - far) some, a tt))
+        go : (t : Bool) → (T t → far ≤ offsetOf k) → (T (not t) → offsetOf k < far) → size (whole .quotient) ≤ reach f
+        go true a b = rw (up-exact (a tt)) (omega (arith, size-pos n some, size-shift n (offsetOf k - far) some, a tt))
         go false a b = le-trans (size-mono (whole .quotient) n (down-le (b tt))) (held .range)
 
     -- ---- the three answers, where the code counts places from `far` below the smallest
@@ -72,31 +72,31 @@ module _ (f : Format) (bias : ℕ) (s : ℤ) (ok : Scalable f bias s) where
     unfolding operandOf
     scaled-infinite h =
         let p = size-pos n some in
-        let up : far ≤ raisedOf k = omega (arith, held .range) in
+        let up : far ≤ offsetOf k = omega (arith, held .range) in
         ap (scaledOf s)
-        (scaled-cut ∙ ap (boundedCut f (v .negative)) (up-exact up)
-        ∙ bounded-infinite f (ok .regular) (v .negative) (n * 2 ^ (raisedOf k - far)) Exact (omega (arith, size-shift n (raisedOf k - far) some)))
+        (scaled-round ∙ ap (boundedRound f (v .negative)) (up-exact up)
+        ∙ bounded-infinite f (ok .regular) (v .negative) (n * 2 ^ (offsetOf k - far)) Exact (omega (arith, size-shift n (offsetOf k - far) some)))
 
     scaled-in : place < reach f + far → scaleValue f v k ≡ record { class = finite (record { negative = v .negative; count = whole .quotient }); says = whole .says }
-    scaled-in h = scaled-cut ∙ bounded-finite f (ok .regular) (v .negative) (whole .quotient) (whole .says) (whole-size h)
+    scaled-in h = scaled-round ∙ bounded-finite f (ok .regular) (v .negative) (whole .quotient) (whole .says) (whole-size h)
 
     -- the significand that the code has, and its place
     abbrev pub a : ℕ
     a = lead n
 
-    same : a * 2 ^ place ≡ n * 2 ^ raisedOf k * 2 ^ 63
+    same : a * 2 ^ place ≡ n * 2 ^ offsetOf k * 2 ^ 63
     same =
-        let e : 63 + raisedOf k ≡ raisedOf k + 63 = omega arith in
-        sym (shift-shift a (size n - 1) (raisedOf k)) ∙ ap (λ (z : ℕ). z * 2 ^ raisedOf k) (lead-exact n some (digits-more (f .precision) 64 n (ok .narrow) (held .digits)))
-        ∙ shift-shift n 63 (raisedOf k) ∙ ap (λ (z : ℕ). n * 2 ^ z) e ∙ sym (shift-shift n (raisedOf k) 63)
+        let e : 63 + offsetOf k ≡ offsetOf k + 63 = omega arith in
+        sym (shift-shift a (size n - 1) (offsetOf k)) ∙ ap (λ (z : ℕ). z * 2 ^ offsetOf k) (lead-exact n some (digits-more (f .precision) 64 n (ok .narrow) (held .digits)))
+        ∙ shift-shift n 63 (offsetOf k) ∙ ap (λ (z : ℕ). n * 2 ^ z) e ∙ sym (shift-shift n (offsetOf k) 63)
 
     whole-exact : far + 63 ≤ place → whole ≡ record { quotient = a * 2 ^ (place - (far + 63)); says = Exact }
     whole-exact l =
         let u = place - (far + 63) in
         let e : u + far + 63 ≡ place = omega arith in
-        let m : a * 2 ^ u * 2 ^ far * 2 ^ 63 ≡ n * 2 ^ raisedOf k * 2 ^ 63 =
+        let m : a * 2 ^ u * 2 ^ far * 2 ^ 63 ≡ n * 2 ^ offsetOf k * 2 ^ 63 =
         ap (λ (z : ℕ). z * 2 ^ 63) (shift-shift a u far) ∙ shift-shift a (u + far) 63 ∙ ap (λ (z : ℕ). a * 2 ^ z) e ∙ same in
-        ap (λ (z : ℕ). cut z far) (sym (eq-of-mul-eq-mul-right (2 ^ 63) (pow-pos 63) (a * 2 ^ u * 2 ^ far) (n * 2 ^ raisedOf k) m)) ∙ cut-multiple (a * 2 ^ u) far
+        ap (λ (z : ℕ). round z far) (sym (eq-of-mul-eq-mul-right (2 ^ 63) (pow-pos 63) (a * 2 ^ u * 2 ^ far) (n * 2 ^ offsetOf k) m)) ∙ round-multiple (a * 2 ^ u) far
 
     pub scaled-exact : place < reach f + far → far + 63 ≤ place
         → scaledOf s (scaleValue f v k) ≡ Scaled (normalOf (v .negative) a (s +ℤ pos (place - (far + 63) + 63))) Exact
@@ -106,8 +106,8 @@ module _ (f : Format) (bias : ℕ) (s : ℤ) (ok : Scalable f bias s) where
 
     pub scaled-rounded : place < reach f + far → place ≤ far + 63
         → scaledOf s (scaleValue f v k)
-        ≡ Scaled (normalOf (v .negative) (cut a (far + 63 - place) .quotient) (s +ℤ pos 63)) (cut a (far + 63 - place) .says)
+        ≡ Scaled (normalOf (v .negative) (round a (far + 63 - place) .quotient) (s +ℤ pos 63)) (round a (far + 63 - place) .says)
     scaled-rounded h l =
-        let c = cut a (far + 63 - place) in
-        let e : whole ≡ c = sym (cut-same a (far + 63 - place) place (n * 2 ^ raisedOf k) far 63 same (omega arith)) in
-        ap (scaledOf s) (scaled-in h) ∙ rw (e, normal-operand s (v .negative) (c .quotient) 63 (c .quotient) (lt-of-le-of-lt (cut-le a (far + 63 - place)) (lead-word n some)) refl)
+        let c = round a (far + 63 - place) in
+        let e : whole ≡ c = sym (round-same a (far + 63 - place) place (n * 2 ^ offsetOf k) far 63 same (omega arith)) in
+        ap (scaledOf s) (scaled-in h) ∙ rw (e, normal-operand s (v .negative) (c .quotient) 63 (c .quotient) (lt-of-le-of-lt (round-le a (far + 63 - place)) (lead-word n some)) refl)

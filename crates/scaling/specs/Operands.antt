@@ -5,7 +5,7 @@ use lib.Dec.{T}
 use lib.IntN.{ℤ, pos}
 use lib.Signed.{mag, leZ}
 use Rattle.definitions.specs.Class.{Class, unsupported, nan, infinite, finite}
-use Rattle.definitions.specs.Format.{Format, Regular, Held}
+use Rattle.definitions.specs.Format.{Format, Regular, Representable}
 use Rattle.definitions.specs.declared.Refusal.the-variants as why
 use Rattle.definitions.specs.Scale as definition
 use Rattle.operands.specs.Operand.{operandOf, placeIn}
@@ -36,7 +36,7 @@ abbrev pub Holds : Format → Class → Type 0
 Holds f unsupported = Unit {0}
 Holds f nan = Unit {0}
 Holds f (infinite n) = Unit {0}
-Holds f (finite v) = Held f (v .count)
+Holds f (finite v) = Representable f (v .count)
 
 abbrev pub scaledOf : ℤ → definition.Scaled → ScaledOperand
 scaledOf s a = scaled.Scaled (operandOf s (a .class)) (a .says)

@@ -7,6 +7,6 @@ abbrev pub far : ℕ
 far = 65536
 
 -- a power with `far` added, where one further from 0 than that counts as `far`
-unfoldable pub raisedOf : ℤ → ℕ
-raisedOf (pos n) = far + min n far
-raisedOf (negsuc n) = far - suc n
+unfoldable pub offsetOf : ℤ → ℕ
+offsetOf (pos n) = far + min n far
+offsetOf (negsuc n) = far - suc n

@@ -1,7 +1,7 @@
 // Scaling and splitting of operands, the same for every format. Only crates of this repository call these, with operands as `formats`
 // unpacks them.
 use crate::power::FAR;
-use crate::power::raised;
+use crate::power::offset;
 use definitions::Refusal;
 use definitions::Rounding;
 use operands::Operand;
@@ -9,11 +9,11 @@ use operands::Unpacked;
 use operands::exponent_at;
 use operands::normalise;
 use operands::place_of;
-use rounding::cut_places;
+use rounding::round_places;
 ghost use mathlib.Core.Path.{_≡_};
 ghost use Prim.Native.Nat.{_<_};
 ghost use Rattle.definitions.specs.Class.{Value, Class};
-ghost use Rattle.definitions.specs.Format.{Format, Held};
+ghost use Rattle.definitions.specs.Format.{Format, Representable};
 ghost use Rattle.definitions.specs.Scale.{scaleValue, scaleClass};
 ghost use Rattle.operands.specs.Operand.{operandOf, unpackedOf, Packable, PackableOperand};
 ghost use Rattle.scaling.specs.Power.{far};
@@ -34,11 +34,11 @@ pub enum SplitOperand {
 // A value that is not zero, scaled. Places are counted from FAR below the smallest place, so that none is negative.
 fn scale_value(value: Unpacked, power: i32, bias: u32, smallest: i32) -> ScaledOperand
     requires { ⌜ Packable smallest far value × Spans bias smallest ⌝ }
-    ensures { λ r. ⌜ ((f : Format) (v : Value) → Scalable f bias smallest → Held f (v .count) → 0 < v .count → value ≡ unpackedOf smallest v → r ≡ scaledOf smallest (scaleValue f v power)) ⌝ }
+    ensures { λ r. ⌜ ((f : Format) (v : Value) → Scalable f bias smallest → Representable f (v .count) → 0 < v .count → value ≡ unpackedOf smallest v → r ≡ scaledOf smallest (scaleValue f v power)) ⌝ }
 {
     let low = FAR as u32;
     let highest = bias as i32;
-    let place = place_of(value.exponent, smallest) + raised(power);
+    let place = place_of(value.exponent, smallest) + offset(power);
     if place_of(highest, smallest) + low < place {
         return ScaledOperand::Scaled(Operand::Infinite(value.negative), Rounding::Up);
     }
@@ -47,7 +47,7 @@ fn scale_value(value: Unpacked, power: i32, bias: u32, smallest: i32) -> ScaledO
         let kept = normalise(value.negative, value.significand, exponent);
         return ScaledOperand::Scaled(kept, Rounding::Exact);
     }
-    let cut = cut_places(value.significand, low + 63 - place);
+    let cut = round_places(value.significand, low + 63 - place);
     let says = cut.says;
     let kept = normalise(value.negative, cut.quotient, exponent_at(smallest, 0));
     ScaledOperand::Scaled(kept, says)

@@ -15,13 +15,13 @@ ghost use mathlib.Core.Path.{_≡_};
 ghost use Prim.Native.Nat.{_<_};
 ghost use Rattle.definitions.specs.Format.{binary16, binary32, binary64, x87, patterns};
 ghost use Rattle.definitions.specs.Scale.{scaleReport};
-ghost use Rattle.definitions.specs.Answers.{scaleTold, scaleTold80, joined};
+ghost use Rattle.definitions.specs.Answers.{scaleMeaning, scaleMeaning80, joined};
 ghost use Rattle.formats.specs.Shape.{formatOf, Sound};
 
 // Only the three functions below call it, each with its own shape.
 fn scale_in(shape: Shape, x: u64, power: i32) -> ScaleAnswer
     requires { ⌜ Sound shape × (x < patterns (formatOf shape)) ⌝ }
-    ensures { λ r. ⌜ scaleTold (formatOf shape) r ≡ scaleReport (formatOf shape) x power ⌝ }
+    ensures { λ r. ⌜ scaleMeaning (formatOf shape) r ≡ scaleReport (formatOf shape) x power ⌝ }
 {
     match scale_operand(unpack(shape, x), power, shape.bias, shape.smallest) {
         ScaledOperand::Refused(why) => ScaleAnswer::Refused(why),
@@ -33,25 +33,25 @@ fn scale_in(shape: Shape, x: u64, power: i32) -> ScaleAnswer
 }
 
 pub fn scale16(x: u16, power: i32) -> ScaleAnswer
-    ensures { λ r. ⌜ scaleTold binary16 r ≡ scaleReport binary16 x power ⌝ }
+    ensures { λ r. ⌜ scaleMeaning binary16 r ≡ scaleReport binary16 x power ⌝ }
 {
     scale_in(Binary16::shape(), x as u64, power)
 }
 
 pub fn scale32(x: u32, power: i32) -> ScaleAnswer
-    ensures { λ r. ⌜ scaleTold binary32 r ≡ scaleReport binary32 x power ⌝ }
+    ensures { λ r. ⌜ scaleMeaning binary32 r ≡ scaleReport binary32 x power ⌝ }
 {
     scale_in(Binary32::shape(), x as u64, power)
 }
 
 pub fn scale64(x: u64, power: i32) -> ScaleAnswer
-    ensures { λ r. ⌜ scaleTold binary64 r ≡ scaleReport binary64 x power ⌝ }
+    ensures { λ r. ⌜ scaleMeaning binary64 r ≡ scaleReport binary64 x power ⌝ }
 {
     scale_in(Binary64::shape(), x, power)
 }
 
 pub fn scale80(x: Extended, power: i32) -> ScaleAnswer80
-    ensures { λ r. ⌜ scaleTold80 r ≡ scaleReport x87 (joined x) power ⌝ }
+    ensures { λ r. ⌜ scaleMeaning80 r ≡ scaleReport x87 (joined x) power ⌝ }
 {
     let operand = X87::of_pattern(x).operand;
     match scale_operand(operand, power, X87::BIAS as u32, X87::SMALLEST) {

@@ -15,13 +15,13 @@ ghost use mathlib.Core.Path.{_≡_};
 ghost use Prim.Native.Nat.{_<_};
 ghost use Rattle.definitions.specs.Format.{binary16, binary32, binary64, x87, patterns};
 ghost use Rattle.definitions.specs.Scale.{splitReport};
-ghost use Rattle.definitions.specs.Answers.{splitTold, splitTold80, joined};
+ghost use Rattle.definitions.specs.Answers.{splitMeaning, splitMeaning80, joined};
 ghost use Rattle.formats.specs.Shape.{formatOf, Sound};
 
 // Only the three functions below call it, each with its own shape.
 fn split_in(shape: Shape, x: u64) -> SplitAnswer
     requires { ⌜ Sound shape × (x < patterns (formatOf shape)) ⌝ }
-    ensures { λ r. ⌜ splitTold (formatOf shape) r ≡ splitReport (formatOf shape) x ⌝ }
+    ensures { λ r. ⌜ splitMeaning (formatOf shape) r ≡ splitReport (formatOf shape) x ⌝ }
 {
     match split_operand(unpack(shape, x)) {
         SplitOperand::Refused(why) => SplitAnswer::Refused(why),
@@ -33,25 +33,25 @@ fn split_in(shape: Shape, x: u64) -> SplitAnswer
 }
 
 pub fn split16(x: u16) -> SplitAnswer
-    ensures { λ r. ⌜ splitTold binary16 r ≡ splitReport binary16 x ⌝ }
+    ensures { λ r. ⌜ splitMeaning binary16 r ≡ splitReport binary16 x ⌝ }
 {
     split_in(Binary16::shape(), x as u64)
 }
 
 pub fn split32(x: u32) -> SplitAnswer
-    ensures { λ r. ⌜ splitTold binary32 r ≡ splitReport binary32 x ⌝ }
+    ensures { λ r. ⌜ splitMeaning binary32 r ≡ splitReport binary32 x ⌝ }
 {
     split_in(Binary32::shape(), x as u64)
 }
 
 pub fn split64(x: u64) -> SplitAnswer
-    ensures { λ r. ⌜ splitTold binary64 r ≡ splitReport binary64 x ⌝ }
+    ensures { λ r. ⌜ splitMeaning binary64 r ≡ splitReport binary64 x ⌝ }
 {
     split_in(Binary64::shape(), x)
 }
 
 pub fn split80(x: Extended) -> SplitAnswer80
-    ensures { λ r. ⌜ splitTold80 r ≡ splitReport x87 (joined x) ⌝ }
+    ensures { λ r. ⌜ splitMeaning80 r ≡ splitReport x87 (joined x) ⌝ }
 {
     let operand = X87::of_pattern(x).operand;
     match split_operand(operand) {

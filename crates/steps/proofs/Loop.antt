@@ -4,8 +4,8 @@ use mathlib.Core.Bool.{true, false}
 use Prim.Native.Nat.{ℕ, _+_, _-_, _%_, _^_, _<_}
 use native.Mathlib.Omega.{arith}
 use Rattle.definitions.specs.Class.{Value, finite}
-use Rattle.definitions.specs.Format.{Held, x87}
-use Rattle.definitions.specs.Division.{Reply, by}
+use Rattle.definitions.specs.Format.{Representable, x87}
+use Rattle.definitions.specs.Division.{Outcome, by}
 use Rattle.definitions.specs.Steps.{step, stepBy, run, followed}
 use Rattle.definitions.specs.declared.Kind.{Kind}
 use Rattle.chains.proofs.Answer.{run-held}
@@ -31,11 +31,11 @@ pub reached-none : (κ : Kind) (n m : ℕ) (x : Unpacked) → Stands x → Reach
 unfolding run
 reached-none κ n m x s = record { going = refl; is = ap Finite (s .unpacks .is) ∙ sym (some-operand (x87 .smallest) (valueIn x) (s .unpacks .some)); taken = refl }
 
-module _ (κ : Kind) (n m : ℕ) (v : Value) (some : 0 < m) (hm : Held x87 m) (hv : Held x87 (v .count)) (o : Operand) (q k : ℕ) (at : Reached κ n m v o q k) where
-  now : Reply
+module _ (κ : Kind) (n m : ℕ) (v : Value) (some : 0 < m) (hm : Representable x87 m) (hv : Representable x87 (v .count)) (o : Operand) (q k : ℕ) (at : Reached κ n m v o q k) where
+  now : Outcome
   now = run κ n k (by m) v
 
-  now-held : Held x87 (now .value .count)
+  now-held : Representable x87 (now .value .count)
   unfolding now
   now-held = run-held x87 κ n k m v some hm hv
 
@@ -45,7 +45,7 @@ module _ (κ : Kind) (n m : ℕ) (v : Value) (some : 0 < m) (hm : Held x87 m) (h
 
   -- the step from there
   module _ (t : Stepped) (e : t ≡ steppedOf (stepBy κ n m (valueOperand o))) where
-    turn : Reply
+    turn : Outcome
     turn = stepBy κ n m (now .value)
 
     turn-is : t ≡ steppedOf turn
@@ -57,21 +57,21 @@ module _ (κ : Kind) (n m : ℕ) (v : Value) (some : 0 < m) (hm : Held x87 m) (h
     next-is = run-next κ n k (by m) v (at .going)
 
     value-next : t .left .value ≡ operandOf (x87 .smallest) (finite (run κ n (k + 1) (by m) v .value))
-    value-next = ap (λ (s : Stepped). s .left .value) turn-is ∙ sym (ap (λ (r : Reply). operandOf (x87 .smallest) (finite (r .value))) next-is)
+    value-next = ap (λ (s : Stepped). s .left .value) turn-is ∙ sym (ap (λ (r : Outcome). operandOf (x87 .smallest) (finite (r .value))) next-is)
 
     quotient-next : (q + t .left .quotient) % 2 ^ 32 ≡ run κ n (k + 1) (by m) v .whole % 2 ^ 32
     unfolding now
     quotient-next =
         let a = at .taken in
         let b : t .left .quotient ≡ turn .whole % 2 ^ 32 = ap (λ (s : Stepped). s .left .quotient) turn-is in
-        (let c : (q + t .left .quotient) % 2 ^ 32 ≡ (now .whole + turn .whole) % 2 ^ 32 = omega arith in c) ∙ sym (ap (λ (r : Reply). r .whole % 2 ^ 32) next-is)
+        (let c : (q + t .left .quotient) % 2 ^ 32 ≡ (now .whole + turn .whole) % 2 ^ 32 = omega arith in c) ∙ sym (ap (λ (r : Outcome). r .whole % 2 ^ 32) next-is)
 
     done-next : run κ n (k + 1) (by m) v .done ≡ t .done
-    done-next = ap (λ (r : Reply). r .done) next-is ∙ sym (ap (λ (s : Stepped). s .done) turn-is)
+    done-next = ap (λ (r : Outcome). r .done) next-is ∙ sym (ap (λ (s : Stepped). s .done) turn-is)
 
     steps-next : run κ n (k + 1) (by m) v .steps ≡ k + 1
     unfolding turn now step
-    steps-next = ap (λ (r : Reply). r .steps) next-is ∙ (let a = run-spent κ n k (by m) v (at .going) in let b = step-one κ n (by m) (now .value) in omega arith)
+    steps-next = ap (λ (r : Outcome). r .steps) next-is ∙ (let a = run-spent κ n k (by m) v (at .going) in let b = step-one κ n (by m) (now .value) in omega arith)
 
     pub reached-next : t .done ≡ false → Reached κ n m v (t .left .value) ((q + t .left .quotient) % 2 ^ 32) (k + 1)
     reached-next d = record { going = done-next ∙ d; is = value-next; taken = quotient-next }

@@ -6,10 +6,10 @@ use native.Mathlib.Omega.{arith}
 use borrow.Author.Tests.{le-leb, lt-leb}
 use lib.Dec.{eqb, eqb·suc-zero}
 use Rattle.definitions.specs.Class.{Class, finite}
-use Rattle.definitions.specs.Format.{Held, x87, classOf, patternOf, reach}
+use Rattle.definitions.specs.Format.{Representable, x87, classOf, patternOf, reach}
 use Rattle.definitions.specs.Numbers.{numberOf, checks, first, dividing, accepted}
-use Rattle.definitions.specs.Division.{Reply, by, finish, unbounded, dividendOf, divisorOf}
-use Rattle.definitions.specs.Remainder.{refusedValue, shown}
+use Rattle.definitions.specs.Division.{Outcome, by, finish, unbounded, dividendOf, divisorOf}
+use Rattle.definitions.specs.Remainder.{refusedValue, quotientBits}
 use Rattle.definitions.specs.Steps.{step, stepBy, run}
 use Rattle.definitions.specs.Reports.{nothing, sized, calling, reportOf, stepReport, runReport}
 use Rattle.definitions.specs.Answers.{refusalNumber}
@@ -102,13 +102,13 @@ module _ (κ : Kind) (n x y : ℕ) where
 
   module _ (z : sized n ≡ true) where
     -- an accepted step's reply, written down
-    step-answered : (r : Reply) → numberOf (dividing (classOf x87 x) (classOf x87 y)) ≡ 0 → step κ n (divisorOf (classOf x87 y)) (dividendOf (classOf x87 x)) ≡ r
-        → record { number = cond (r .done) 0 1; value = patternOf x87 (finite (r .value)); quotient = shown (r .whole); steps = r .steps } ≡ stepReport nothing κ n x y
+    step-answered : (r : Outcome) → numberOf (dividing (classOf x87 x) (classOf x87 y)) ≡ 0 → step κ n (divisorOf (classOf x87 y)) (dividendOf (classOf x87 x)) ≡ r
+        → record { number = cond (r .done) 0 1; value = patternOf x87 (finite (r .value)); quotient = quotientBits (r .whole); steps = r .steps } ≡ stepReport nothing κ n x y
     unfolding stepReport after
-    step-answered r e q = sym (ap (λ (s : Reply). reportOf (numberOf (calling nothing n (classOf x87 x) (classOf x87 y) false (not (s .done)))) s) q
+    step-answered r e q = sym (ap (λ (s : Outcome). reportOf (numberOf (calling nothing n (classOf x87 x) (classOf x87 y) false (not (s .done)))) s) q
         ∙ ap (λ (k : ℕ). reportOf k r) (accepted-number n (classOf x87 x) (classOf x87 y) z e false (not (r .done))) ∙ go (r .done))
       where
-        go : (d : Bool) → reportOf (after false (not d)) r ≡ record { number = cond d 0 1; value = patternOf x87 (finite (r .value)); quotient = shown (r .whole); steps = r .steps }
+        go : (d : Bool) → reportOf (after false (not d)) r ≡ record { number = cond d 0 1; value = patternOf x87 (finite (r .value)); quotient = quotientBits (r .whole); steps = r .steps }
         go true = refl
         go false = refl
 
@@ -130,22 +130,22 @@ module _ (κ : Kind) (n b x y : ℕ) where
 
   module _ (z : sized n ≡ true) where
     -- an accepted run's reply, written down
-    run-answered : (r : Reply) → numberOf (dividing (classOf x87 x) (classOf x87 y)) ≡ 0 → run κ n b (divisorOf (classOf x87 y)) (dividendOf (classOf x87 x)) ≡ r
-        → record { number = cond (r .done) 0 7; value = patternOf x87 (finite (r .value)); quotient = shown (r .whole); steps = r .steps } ≡ runReport nothing κ n b x y
+    run-answered : (r : Outcome) → numberOf (dividing (classOf x87 x) (classOf x87 y)) ≡ 0 → run κ n b (divisorOf (classOf x87 y)) (dividendOf (classOf x87 x)) ≡ r
+        → record { number = cond (r .done) 0 7; value = patternOf x87 (finite (r .value)); quotient = quotientBits (r .whole); steps = r .steps } ≡ runReport nothing κ n b x y
     unfolding runReport after
-    run-answered r e q = sym (ap (λ (s : Reply). reportOf (numberOf (calling nothing n (classOf x87 x) (classOf x87 y) (not (s .done)) false)) s) q
+    run-answered r e q = sym (ap (λ (s : Outcome). reportOf (numberOf (calling nothing n (classOf x87 x) (classOf x87 y) (not (s .done)) false)) s) q
         ∙ ap (λ (k : ℕ). reportOf k r) (accepted-number n (classOf x87 x) (classOf x87 y) z e (not (r .done)) false) ∙ go (r .done))
       where
-        go : (d : Bool) → reportOf (after (not d) false) r ≡ record { number = cond d 0 7; value = patternOf x87 (finite (r .value)); quotient = shown (r .whole); steps = r .steps }
+        go : (d : Bool) → reportOf (after (not d) false) r ≡ record { number = cond d 0 7; value = patternOf x87 (finite (r .value)); quotient = quotientBits (r .whole); steps = r .steps }
         go true = refl
         go false = refl
 
     -- a dividend that the first step returns
     module _ (o : Operand) (j : ReturnsDividend (x87 .smallest) (classOf x87 x) (classOf x87 y) o) where
-      value-held : Held x87 (j .value .count)
+      value-held : Representable x87 (j .value .count)
       value-held = read-held x87 regular80 x (j .value) (j .dividend)
 
-      ran : ℕ → Reply
+      ran : ℕ → Outcome
       ran zero = record { done = false; value = j .value; whole = 0; steps = 0 }
       ran (suc k) = finish κ unbounded (j .value)
 
@@ -154,7 +154,7 @@ module _ (κ : Kind) (n b x y : ℕ) where
       ran-is zero = refl
       ran-is (suc k) = rw (j .in-one-step κ n)
 
-      ran-written : (k : ℕ) → runWritten (returnedOf o k) ≡ record { number = cond (ran k .done) 0 7; value = patternOf x87 (finite (ran k .value)); quotient = shown (ran k .whole); steps = ran k .steps }
+      ran-written : (k : ℕ) → runWritten (returnedOf o k) ≡ record { number = cond (ran k .done) 0 7; value = patternOf x87 (finite (ran k .value)); quotient = quotientBits (ran k .whole); steps = ran k .steps }
       unfolding ran finish
       ran-written zero = ap (λ (p : ℕ). record { number = 7; value = p; quotient = 0; steps = 0 }) (pattern-is x87 within-x87 (j .value) o value-held (j .operand))
       ran-written (suc k) = rw (eqb·suc-zero k) (ap (λ (p : ℕ). record { number = 0; value = p; quotient = 0; steps = 1 }) (pattern-is x87 within-x87 (j .value) o value-held (j .operand)))
@@ -164,10 +164,10 @@ module _ (κ : Kind) (n b x y : ℕ) where
 
 -- ---- two values
 module _ (x y : ℕ) (a b : Unpacked) (j : Divides (x87 .smallest) (classOf x87 x) (classOf x87 y) a b) where
-  dividend-held : Held x87 (j .value .count)
+  dividend-held : Representable x87 (j .value .count)
   dividend-held = read-held x87 regular80 x (j .value) (j .dividend-is)
 
-  divisor-held : Held x87 (j .divisor .count)
+  divisor-held : Representable x87 (j .divisor .count)
   divisor-held = read-held x87 regular80 y (j .divisor) (j .divisor-is)
 
   pub stands-dividend : Stands a
@@ -184,10 +184,10 @@ module _ (x y : ℕ) (a b : Unpacked) (j : Divides (x87 .smallest) (classOf x87 
 
   module _ (κ : Kind) (n : ℕ) where
     module _ (t : Stepped) (e : t ≡ steppedOf (stepBy κ n (valueIn b .count) (valueIn a))) where
-      stepped : Reply
+      stepped : Outcome
       stepped = stepBy κ n (j .divisor .count) (j .value)
 
-      stepped-held : Held x87 (stepped .value .count)
+      stepped-held : Representable x87 (stepped .value .count)
       unfolding stepped step
       stepped-held = step-held x87 κ n (j .divisor .count) (j .value) (j .by-divisor .some) divisor-held dividend-held
 
@@ -201,7 +201,7 @@ module _ (x y : ℕ) (a b : Unpacked) (j : Divides (x87 .smallest) (classOf x87 
       pub step-divided : sized n ≡ true → stepWritten t ≡ stepReport nothing κ n x y
       unfolding stepped step
       step-divided z =
-          let q : t .left .quotient % 8 ≡ shown (stepped .whole) = ap (λ (s : Stepped). s .left .quotient % 8) stepped-is ∙ omega arith in
+          let q : t .left .quotient % 8 ≡ quotientBits (stepped .whole) = ap (λ (s : Stepped). s .left .quotient % 8) stepped-is ∙ omega arith in
           (λ i. record {
             number = cond (stepped-is i .done) 0 1;
             value = pattern-is x87 within-x87 (stepped .value) (t .left .value) stepped-held (ap (λ (s : Stepped). s .left .value) stepped-is) i;
@@ -212,10 +212,10 @@ module _ (x y : ℕ) (a b : Unpacked) (j : Divides (x87 .smallest) (classOf x87 
 
     -- a run
     module _ (budget : ℕ) (t : Ran) (e : t ≡ ranOf (run κ n budget (by (valueIn b .count)) (valueIn a))) where
-      whole-run : Reply
+      whole-run : Outcome
       whole-run = run κ n budget (by (j .divisor .count)) (j .value)
 
-      whole-run-held : Held x87 (whole-run .value .count)
+      whole-run-held : Representable x87 (whole-run .value .count)
       unfolding whole-run
       whole-run-held = run-held x87 κ n budget (j .divisor .count) (j .value) (j .by-divisor .some) divisor-held dividend-held
 
@@ -229,7 +229,7 @@ module _ (x y : ℕ) (a b : Unpacked) (j : Divides (x87 .smallest) (classOf x87 
       pub run-divided : sized n ≡ true → runWritten t ≡ runReport nothing κ n budget x y
       unfolding whole-run
       run-divided z =
-          let q : t .quotient % 8 ≡ shown (whole-run .whole) = ap (λ (s : Ran). s .quotient % 8) whole-run-is ∙ omega arith in
+          let q : t .quotient % 8 ≡ quotientBits (whole-run .whole) = ap (λ (s : Ran). s .quotient % 8) whole-run-is ∙ omega arith in
           (λ i. record {
             number = cond (whole-run-is i .done) 0 7;
             value = pattern-is x87 within-x87 (whole-run .value) (t .value) whole-run-held (ap (λ (s : Ran). s .value) whole-run-is) i;

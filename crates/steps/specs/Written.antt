@@ -4,7 +4,7 @@ use mathlib.Core.Bool.{not, cond}
 use lib.Dec.{eqb}
 use Rattle.definitions.specs.Class.{finite}
 use Rattle.definitions.specs.Format.{x87, patternOf}
-use Rattle.definitions.specs.Division.{Reply}
+use Rattle.definitions.specs.Division.{Outcome}
 use Rattle.definitions.specs.Reports.{Report}
 use Rattle.operands.specs.declared.Operand.{Operand}
 use Rattle.operands.specs.Operand.{classIn, operandOf}
@@ -12,7 +12,7 @@ use Rattle.partial.specs.declared.Stepped.{Stepped}
 use Rattle.steps.specs.declared.run.Ran.{Ran}
 
 -- a run's reply, on its way
-abbrev pub ranOf : Reply → Ran
+abbrev pub ranOf : Outcome → Ran
 ranOf r = record { done = r .done; value = operandOf (x87 .smallest) (finite (r .value)); quotient = r .whole % 2 ^ 32; steps = r .steps }
 
 -- the run of a dividend that the first step returns

@@ -15,7 +15,7 @@ ghost use Rattle.definitions.specs.Format.{x87, reach};
 ghost use Rattle.definitions.specs.Division.{by};
 ghost use Rattle.definitions.specs.Steps.{run};
 ghost use Rattle.definitions.specs.Reports.{nothing, runReport, sized};
-ghost use Rattle.definitions.specs.Answers.{runTold, joined};
+ghost use Rattle.definitions.specs.Answers.{runMeaning, joined};
 ghost use Rattle.operands.specs.Operand.{PackableOperand};
 ghost use Rattle.partial.specs.Stands.{Stands, valueIn};
 ghost use Rattle.steps.specs.Written.{ranOf, returnedOf, runWritten};
@@ -85,7 +85,7 @@ fn returned_run(value: Operand, budget: u32) -> Ran
 // What a run came to, written down.
 fn run_answer(ran: Ran) -> RunAnswer
     requires { ⌜ PackableOperand (x87 .smallest) (reach x87) (ran .value) ⌝ }
-    ensures { λ r. ⌜ runTold r ≡ runWritten ran ⌝ }
+    ensures { λ r. ⌜ runMeaning r ≡ runWritten ran ⌝ }
 {
     let operand = ran.value;
     let value = X87 { operand }.pattern();
@@ -107,7 +107,7 @@ fn run_answer(ran: Ran) -> RunAnswer
 }
 
 pub fn run80(x: Extended, y: Extended, size: u32, kind: Kind, budget: u32) -> RunAnswer
-    ensures { λ r. ⌜ runTold r ≡ runReport nothing kind size budget (joined x) (joined y) ⌝ }
+    ensures { λ r. ⌜ runMeaning r ≡ runReport nothing kind size budget (joined x) (joined y) ⌝ }
 {
     match examine_sized(x, y, size) {
         Examined::Refused(why) => RunAnswer::Refused(why),

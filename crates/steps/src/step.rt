@@ -13,14 +13,14 @@ use remainder::patterns::QUOTIENT_MODULUS;
 ghost use mathlib.Core.Path.{_≡_};
 ghost use Rattle.definitions.specs.Format.{x87, reach};
 ghost use Rattle.definitions.specs.Reports.{nothing, stepReport};
-ghost use Rattle.definitions.specs.Answers.{stepTold, joined};
+ghost use Rattle.definitions.specs.Answers.{stepMeaning, joined};
 ghost use Rattle.operands.specs.Operand.{PackableOperand};
 ghost use Rattle.steps.specs.Written.{stepWritten};
 
 // What a step came to, written down.
 fn step_answer(stepped: Stepped) -> StepAnswer
     requires { ⌜ PackableOperand (x87 .smallest) (reach x87) (stepped .left .value) ⌝ }
-    ensures { λ r. ⌜ stepTold r ≡ stepWritten stepped ⌝ }
+    ensures { λ r. ⌜ stepMeaning r ≡ stepWritten stepped ⌝ }
 {
     let left = stepped.left;
     let operand = left.value;
@@ -34,7 +34,7 @@ fn step_answer(stepped: Stepped) -> StepAnswer
 }
 
 pub fn step80(x: Extended, y: Extended, size: u32, kind: Kind) -> StepAnswer
-    ensures { λ r. ⌜ stepTold r ≡ stepReport nothing kind size (joined x) (joined y) ⌝ }
+    ensures { λ r. ⌜ stepMeaning r ≡ stepReport nothing kind size (joined x) (joined y) ⌝ }
 {
     match examine_sized(x, y, size) {
         Examined::Refused(why) => StepAnswer::Refused(why),

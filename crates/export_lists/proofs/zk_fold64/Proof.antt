@@ -2,7 +2,7 @@
 use mathlib.Core.Path.{_≡_}
 use Rattle.definitions.specs.Fold.{foldList}
 use Rattle.definitions.specs.Block.{kindOf}
-use Rattle.lists.specs.Told.{foldTold}
+use Rattle.lists.specs.Told.{foldMeaning}
 use Rattle.export_lists.proofs.Written.{fold-number, refused, folded}
 use borrow.Author.Needs.{needs}
 use Rattle.export_lists.proofs.zk_fold64.Statement.{statement}
@@ -16,7 +16,7 @@ fold64-requires c κs = search needs
 
 -- what is told is the fold of the kind that the number asks for
 told : (c : tie.After-fold64) → let a = c .before .before .before .before .before .before .before .args in
-    foldTold (c .fold64 .result) (c .fold64 .last .1 .0) (c .fold64 .last .1 .1 .0) ≡ foldList (kindOf (a .kind)) (a .y) (a .x .now) (a .results .now) (a .quotients .now)
+    foldMeaning (c .fold64 .result) (c .fold64 .last .1 .0) (c .fold64 .last .1 .1 .0) ≡ foldList (kindOf (a .kind)) (a .y) (a .x .now) (a .results .now) (a .quotients .now)
 told c = rw (c .before .kind-of .ensures) at (c .fold64 .ensures)
 
 same-length : tie.Need-same-length

@@ -3,7 +3,7 @@ use mathlib.Core.Path.{_≡_}
 use native.Mathlib.Omega.{arith}
 use Rattle.definitions.specs.Format.{x87}
 use Rattle.definitions.specs.Remainder.{remainder}
-use Rattle.definitions.specs.Answers.{remainderTold80}
+use Rattle.definitions.specs.Answers.{remainderMeaning80}
 use Rattle.definitions.specs.Block.{kindOf}
 use Rattle.interface.specs.Interface.{pattern}
 use Rattle.export_remainder.proofs.Written.{finished80, refused80}
@@ -12,7 +12,7 @@ use Rattle.export_remainder.proofs.zk_rem80.Statement.{statement}
 use Rattle.export_remainder.proofs.zk_rem80.Tie as tie
 
 -- what is told is the remainder of the kind that the number asks for
-told : (c : tie.After-remainder80) → let a = c .before .before .args in remainderTold80 (c .remainder80 .result) ≡ remainder x87 (kindOf (a .kind)) (pattern (a .x) (a .xw)) (pattern (a .y) (a .yw))
+told : (c : tie.After-remainder80) → let a = c .before .before .args in remainderMeaning80 (c .remainder80 .result) ≡ remainder x87 (kindOf (a .kind)) (pattern (a .x) (a .xw)) (pattern (a .y) (a .yw))
 told c = rw (c .before .kind-of .ensures) at (c .remainder80 .ensures)
 
 kind-of-requires : tie.Need-kind-of-requires

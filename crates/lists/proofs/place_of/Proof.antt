@@ -1,7 +1,7 @@
 -- `place_of` meets its contract: an answer that finished gives its own value and quotient, and a refusal the marked place. Assumes nothing.
 use mathlib.Core.Path.{sym, ap, _∙_}
 use native.Mathlib.Omega.{arith}
-use Rattle.definitions.specs.Answers.{remainderTold}
+use Rattle.definitions.specs.Answers.{remainderMeaning}
 use Rattle.definitions.specs.Format.{binary64}
 use Rattle.lists.proofs.OnePlace.{finished, refused, finished-small}
 use borrow.Author.Needs.{needs}
@@ -18,7 +18,7 @@ cast-t8 : tie.Need-cast-t8
 cast-t8 c =
     let r = c .before .before .before in
     let s = r .before in
-    omega (arith, finished-small (s .args .kind) (s .args .y) (s .args .x) (s .pre) _ _ (ap (remainderTold binary64) (sym (c .before .value .given .1)) ∙ r .remainder64 .ensures))
+    omega (arith, finished-small (s .args .kind) (s .args .y) (s .args .x) (s .pre) _ _ (ap (remainderMeaning binary64) (sym (c .before .value .given .1)) ∙ r .remainder64 .ensures))
 
 enum-told : tie.Need-enum-told
 enum-told c = search needs
@@ -27,13 +27,13 @@ returns : tie.Need-returns
 returns c =
     let r = c .before .before .before in
     let s = r .before in
-    finished (s .args .kind) (s .args .y) (s .args .x) (s .pre) _ _ (ap (remainderTold binary64) (sym (c .before .value .given .1)) ∙ r .remainder64 .ensures)
+    finished (s .args .kind) (s .args .y) (s .args .x) (s .pre) _ _ (ap (remainderMeaning binary64) (sym (c .before .value .given .1)) ∙ r .remainder64 .ensures)
 
 returns-2 : tie.Need-returns-2
 returns-2 c =
     let r = c .before .before in
     let s = r .before in
-    refused (s .args .kind) (s .args .y) (s .args .x) (s .pre) _ (ap (remainderTold binary64) (sym (c .enum-told .given .1)) ∙ r .remainder64 .ensures)
+    refused (s .args .kind) (s .args .y) (s .args .x) (s .pre) _ (ap (remainderMeaning binary64) (sym (c .enum-told .given .1)) ∙ r .remainder64 .ensures)
 
 pub place-of-spec : {M : Type 1} → statement M
 place-of-spec =

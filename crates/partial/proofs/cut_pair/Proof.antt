@@ -66,14 +66,14 @@ settle-requires c κs =
       rw (lower s) (omega (arith, mag-sub (s .args .x .exponent) (pos (s .args .size)), x-ready s .small, small s)),
     )
 
-cast-raised : tie.Need-cast-raised
-cast-raised c = let s = c .before .before .before .before in rw (gap-back s) (not-negative 64 (s .args .d) (s .pre .4), record { fits = omega (arith, natAbs-le (s .args .d) {H = 2 ^ 31} (s .fits .d .sfits)) })
+cast-shifted : tie.Need-cast-shifted
+cast-shifted c = let s = c .before .before .before .before in rw (gap-back s) (not-negative 64 (s .args .d) (s .pre .4), record { fits = omega (arith, natAbs-le (s .args .d) {H = 2 ^ 31} (s .fits .d .sfits)) })
 
-sub-raised : tie.Need-sub-raised
-sub-raised c = let s = c .before .before .before .before in rw (gap-back s) (omega (arith, places s, small s))
+sub-shifted : tie.Need-sub-shifted
+sub-shifted c = let s = c .before .before .before .before in rw (gap-back s) (omega (arith, places s, small s))
 
-raised-requires : tie.Need-raised-requires
-raised-requires c κs = search needs
+shifted-requires : tie.Need-shifted-requires
+shifted-requires c κs = search needs
 
 returns : tie.Need-returns
 returns c =
@@ -81,7 +81,7 @@ returns c =
     let e = v .before .before .before in
     let s = e .before in
     let a = s .args in
-    let part : c .raised .result ≡ v .settle .result .quotient * 2 ^ (natAbs (a .d) - a .size) % 2 ^ 32 = rw (gap-back s) at (c .raised .ensures) in
+    let part : c .shifted .result ≡ v .settle .result .quotient * 2 ^ (natAbs (a .d) - a .size) % 2 ^ 32 = rw (gap-back s) at (c .shifted .ensures) in
     let left : v .settle .result ≡ settledOf Truncated (a .x .negative) (dividedOf (a .x .significand) (a .y .significand) (a .size)) (a .y .significand) (a .x .exponent -ℤ pos (a .size)) =
     v .settle .ensures ∙ (λ i. settledOf Truncated (a .x .negative) (e .divide .ensures i) (a .y .significand) (lower s i)) in
     (λ i. record { value = left i .value; quotient = (part ∙ ap (λ (l : Left). l .quotient * 2 ^ (natAbs (a .d) - a .size) % 2 ^ 32) left) i })
@@ -95,7 +95,7 @@ cut-pair-spec =
     cast-settle
     sub-settle
     settle-requires
-    cast-raised
-    sub-raised
-    raised-requires
+    cast-shifted
+    sub-shifted
+    shifted-requires
     returns)

@@ -2,7 +2,7 @@
 use mathlib.Core.Path.{_≡_}
 use Rattle.definitions.specs.Format.{binary32}
 use Rattle.definitions.specs.Scale.{scaleReport}
-use Rattle.definitions.specs.Answers.{scaleTold}
+use Rattle.definitions.specs.Answers.{scaleMeaning}
 use Rattle.laws.proofs.Regular.{regular32}
 use Rattle.export_scaling.proofs.WrittenScale.{value-fits, scaled, refused}
 use mir.Syntax.{w32}
@@ -12,7 +12,7 @@ use Rattle.export_scaling.proofs.scale.zk_scale32.Statement.{statement}
 use Rattle.export_scaling.proofs.scale.zk_scale32.Tie as tie
 
 -- what is told, of the power that was handed over
-told : (c : tie.After-scale32) → let a = c .before .args in scaleTold binary32 (c .scale32 .result) ≡ scaleReport binary32 (a .x) (a .power)
+told : (c : tie.After-scale32) → let a = c .before .args in scaleMeaning binary32 (c .scale32 .result) ≡ scaleReport binary32 (a .x) (a .power)
 told c = rw (toZ-ofZ w32 (c .before .args .power) (c .before .fits .power)) at (c .scale32 .ensures)
 
 scale32-requires : tie.Need-scale32-requires

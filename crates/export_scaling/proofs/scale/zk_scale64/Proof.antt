@@ -2,7 +2,7 @@
 use mathlib.Core.Path.{_≡_}
 use Rattle.definitions.specs.Format.{binary64}
 use Rattle.definitions.specs.Scale.{scaleReport}
-use Rattle.definitions.specs.Answers.{scaleTold}
+use Rattle.definitions.specs.Answers.{scaleMeaning}
 use Rattle.export_scaling.proofs.WrittenScale.{scaled, refused}
 use mir.Syntax.{w32}
 use mir.ValLaws.{toZ-ofZ}
@@ -11,7 +11,7 @@ use Rattle.export_scaling.proofs.scale.zk_scale64.Statement.{statement}
 use Rattle.export_scaling.proofs.scale.zk_scale64.Tie as tie
 
 -- what is told, of the power that was handed over
-told : (c : tie.After-scale64) → let a = c .before .args in scaleTold binary64 (c .scale64 .result) ≡ scaleReport binary64 (a .x) (a .power)
+told : (c : tie.After-scale64) → let a = c .before .args in scaleMeaning binary64 (c .scale64 .result) ≡ scaleReport binary64 (a .x) (a .power)
 told c = rw (toZ-ofZ w32 (c .before .args .power) (c .before .fits .power)) at (c .scale64 .ensures)
 
 scale64-requires : tie.Need-scale64-requires

@@ -3,7 +3,7 @@ use mathlib.Core.Path.{_≡_}
 use native.Mathlib.Omega.{arith}
 use Rattle.definitions.specs.Format.{x87}
 use Rattle.definitions.specs.Scale.{scaleReport}
-use Rattle.definitions.specs.Answers.{scaleTold80}
+use Rattle.definitions.specs.Answers.{scaleMeaning80}
 use Rattle.interface.specs.Interface.{pattern}
 use Rattle.export_scaling.proofs.WrittenScale.{scaled80, refused80}
 use mir.Syntax.{w32}
@@ -13,7 +13,7 @@ use Rattle.export_scaling.proofs.scale.zk_scale80.Statement.{statement}
 use Rattle.export_scaling.proofs.scale.zk_scale80.Tie as tie
 
 -- what is told, of the power that was handed over
-told : (c : tie.After-scale80) → let a = c .before .args in scaleTold80 (c .scale80 .result) ≡ scaleReport x87 (pattern (a .x) (a .xw)) (a .power)
+told : (c : tie.After-scale80) → let a = c .before .args in scaleMeaning80 (c .scale80 .result) ≡ scaleReport x87 (pattern (a .x) (a .xw)) (a .power)
 told c = rw (toZ-ofZ w32 (c .before .args .power) (c .before .fits .power)) at (c .scale80 .ensures)
 
 scale80-requires : tie.Need-scale80-requires

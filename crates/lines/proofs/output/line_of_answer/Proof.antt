@@ -4,7 +4,7 @@ use Prim.Native.Nat.{_≤_}
 use native.Mathlib.Omega.{arith}
 use borrow.Author.Needs.{needs}
 use Rattle.definitions.specs.Format.{binary64}
-use Rattle.definitions.specs.Answers.{remainderTold}
+use Rattle.definitions.specs.Answers.{remainderMeaning}
 use Rattle.definitions.specs.Line.{answerLine}
 use Rattle.definitions.specs.declared.RemainderAnswer.{RemainderAnswer}
 use Rattle.lines.proofs.OneDigit.{refusal-digit}
@@ -14,12 +14,12 @@ use Rattle.lines.proofs.output.line_of_answer.Tie as tie
 enum-known-answer : tie.Need-enum-known-answer
 enum-known-answer c = search needs
 
--- the quotient bits that are shown
+-- the quotient bits that are quotientBits
 one-digit : (c : tie.After-known-told) → c .before .answer .given .0 .1 .0 ≤ 9
-unfolding remainderTold
+unfolding remainderMeaning
 one-digit c =
     let s = c .before .before .before in
-    subst (λ (a : RemainderAnswer). remainderTold binary64 a .quotient ≤ 9) (c .before .answer .given .1) (s .pre)
+    subst (λ (a : RemainderAnswer). remainderMeaning binary64 a .quotient ≤ 9) (c .before .answer .given .1) (s .pre)
 
 cast-digits-line : tie.Need-cast-digits-line
 cast-digits-line c = let q = one-digit c in omega arith
@@ -43,11 +43,11 @@ digits-line-requires-2 : tie.Need-digits-line-requires-2
 digits-line-requires-2 c κs = search needs
 
 returns : tie.Need-returns
-unfolding remainderTold answerLine
+unfolding remainderMeaning answerLine
 returns c = rw (c .before .before .answer .given .1) (c .digits-line .ensures)
 
 returns-2 : tie.Need-returns-2
-unfolding remainderTold answerLine
+unfolding remainderMeaning answerLine
 returns-2 c = rw (c .before .before .before .answer2 .given .1, sym (c .before .refusal-number .ensures)) (c .digits-line2 .ensures)
 
 pub line-of-answer-spec : {M : Type 1} → statement M

@@ -2,7 +2,7 @@
 use mathlib.Core.Path.{ap, _∙_}
 use Prim.Native.Nat.{ℕ, _%_}
 use Rattle.definitions.specs.Format.{x87}
-use Rattle.definitions.specs.Answers.{remainderTold80, joined}
+use Rattle.definitions.specs.Answers.{remainderMeaning80, joined}
 use Rattle.remainder.proofs.Told.{within-x87, refused, returned, returned-packs, both-ready, divided, divided-packs}
 use borrow.Author.Needs.{needs}
 use Rattle.remainder.proofs.patterns.remainder80.Statement.{statement}
@@ -39,14 +39,14 @@ pattern-requires-2 c κs =
     divided-packs x87 within-x87 (joined (a .x)) (joined (a .y)) (a .kind) _ _ (rw (c .before .before .a .given .1) at (e .examine80 .ensures)) (c .finish-pair .result) (c .finish-pair .ensures)
 
 returns : tie.Need-returns
-unfolding remainderTold80
+unfolding remainderMeaning80
 returns c =
     let e = c .before .before .before in
     let a = e .before .args in
     refused x87 within-x87 (joined (a .x)) (joined (a .y)) (a .kind) (c .before .why .given .0 .0) (rw (c .before .why .given .1) at (e .examine80 .ensures))
 
 returns-2 : tie.Need-returns-2
-unfolding remainderTold80
+unfolding remainderMeaning80
 returns-2 c =
     let e = c .before .before .before .before in
     let a = e .before .args in
@@ -54,7 +54,7 @@ returns-2 c =
     ∙ returned x87 within-x87 (joined (a .x)) (joined (a .y)) (a .kind) _ (rw (c .before .before .operand .given .1) at (e .examine80 .ensures))
 
 returns-3 : tie.Need-returns-3
-unfolding remainderTold80
+unfolding remainderMeaning80
 returns-3 c =
     let l = c .before .before in
     let e = l .before .before .before .before in

@@ -2,7 +2,7 @@
 use mathlib.Core.Path.{ap, _∙_}
 use Prim.Native.Nat.{ℕ, _%_}
 use Rattle.definitions.specs.Format.{Format, classOf}
-use Rattle.definitions.specs.Answers.{remainderTold}
+use Rattle.definitions.specs.Answers.{remainderMeaning}
 use Rattle.formats.specs.Shape.{formatOf}
 use Rattle.remainder.specs.Examined.{Judged}
 use Rattle.remainder.proofs.Told.{Within, within-shape, examined, refused, returned, returned-packs, both-ready, divided, divided-packs}
@@ -63,14 +63,14 @@ pack-requires-2 c κs =
     (s .pre .0, divided-packs (format e) (within e) (s .args .x) (s .args .y) (s .args .kind) _ _ (rw (c .before .before .a .given .1) at (judged e)) (c .finish-pair .result) (c .finish-pair .ensures))
 
 returns : tie.Need-returns
-unfolding format remainderTold
+unfolding format remainderMeaning
 returns c =
     let e = c .before .before .before in
     let s = e .before .before .before in
     refused (format e) (within e) (s .args .x) (s .args .y) (s .args .kind) (c .before .why .given .0 .0) (rw (c .before .why .given .1) at (judged e))
 
 returns-2 : tie.Need-returns-2
-unfolding format remainderTold
+unfolding format remainderMeaning
 returns-2 c =
     let e = c .before .before .before .before in
     let s = e .before .before .before in
@@ -78,7 +78,7 @@ returns-2 c =
     ∙ returned (format e) (within e) (s .args .x) (s .args .y) (s .args .kind) _ (rw (c .before .before .dividend .given .1) at (judged e))
 
 returns-3 : tie.Need-returns-3
-unfolding format remainderTold
+unfolding format remainderMeaning
 returns-3 c =
     let l = c .before .before in
     let e = l .before .before .before .before in

@@ -16,11 +16,11 @@ use Rattle.operands.specs.declared.Unpacked.{Unpacked}
 use Rattle.operands.specs.declared.Operand.{Operand}
 use Rattle.definitions.specs.declared.Rounding.the-variants.{Exact}
 use Rattle.scaling.specs.declared.operand.ScaledOperand.the-variants.{Scaled}
-use Rattle.rounding.specs.declared.Cut.{Cut}
-use Rattle.rounding.specs.Cut.{cutOf}
-use Rattle.scaling.specs.Power.{far, raisedOf}
+use Rattle.rounding.specs.declared.RoundedWord.{RoundedWord}
+use Rattle.rounding.specs.Round.{roundOf}
+use Rattle.scaling.specs.Power.{far, offsetOf}
 use Rattle.scaling.specs.Operands.{Scalable}
-use Rattle.scaling.proofs.Powers.{raised-small}
+use Rattle.scaling.proofs.Powers.{offset-small}
 use Rattle.scaling.proofs.Scaled.{top-place, scaled-infinite, scaled-exact, scaled-rounded}
 use borrow.Author.Needs.{needs}
 use Rattle.scaling.proofs.operand.scale_value.Statement.{statement}
@@ -57,30 +57,30 @@ module _ (s : tie.Start) (z : ℤ) (u : ℕ) (e : z ≡ toZ w32 (ofZ w32 (s .arg
   read-back = small-back z (omega (arith, exponent-small))
 
 -- the places that the code counts
-module _ (p : tie.After-raised) where
+module _ (p : tie.After-offset) where
   place-is : p .before .place-of .result ≡ placeIn (p .before .before .before .args .smallest) (p .before .before .before .args .value .exponent)
   place-is = let s = p .before .before .before in rw (exponent-back s, smallest-back s) at (p .before .place-of .ensures)
 
-  raised-is : p .raised .result ≡ raisedOf (p .before .before .before .args .power)
-  raised-is = let s = p .before .before .before in rw (power-back s) at (p .raised .ensures)
+  offset-is : p .offset .result ≡ offsetOf (p .before .before .before .args .power)
+  offset-is = let s = p .before .before .before in rw (power-back s) at (p .offset .ensures)
 
 module _ (p : tie.After-place-of2) where
   top-is : p .place-of2 .result ≡ placeIn (p .before .before .before .before .args .smallest) (pos (p .before .before .before .before .args .bias))
   top-is = let s = p .before .before .before .before in rw (bias-back s, smallest-back s) at (p .place-of2 .ensures)
 
-  sum-small : p .before .before .place-of .result + p .before .raised .result < 2 ^ 18
+  sum-small : p .before .before .place-of .result + p .before .offset .result < 2 ^ 18
   sum-small =
       let s = p .before .before .before .before in
-      rw (place-is (p .before), raised-is (p .before)) (omega (arith, s .pre .0 .range, raised-small (s .args .power)))
+      rw (place-is (p .before), offset-is (p .before)) (omega (arith, s .pre .0 .range, offset-small (s .args .power)))
 
   -- and those of a value v of the format f
   module _ (f : Format) (v : Value) (ok : Scalable f (p .before .before .before .before .args .bias) (p .before .before .before .before .args .smallest))
       (some : 0 < v .count) (is : p .before .before .before .before .args .value ≡ unpackedOf (p .before .before .before .before .args .smallest) v) where
-    placed : p .before .before .place-of .result + p .before .raised .result ≡ size (v .count) - 1 + raisedOf (p .before .before .before .before .args .power)
+    placed : p .before .before .place-of .result + p .before .offset .result ≡ size (v .count) - 1 + offsetOf (p .before .before .before .before .args .power)
     unfolding unpackedOf
     placed =
         let s = p .before .before .before .before in
-        rw (place-is (p .before), raised-is (p .before), is, ap natAbs (add-sub (s .args .smallest) (pos (size (v .count) - 1))))
+        rw (place-is (p .before), offset-is (p .before), is, ap natAbs (add-sub (s .args .smallest) (pos (size (v .count) - 1))))
 
     topped : p .place-of2 .result + 1 ≡ reach f
     topped = let s = p .before .before .before .before in rw top-is (top-place f (s .args .bias) (s .args .smallest) ok)
@@ -96,13 +96,13 @@ place-of-requires c κs =
     let s = c .before in
     rw (exponent-back s, smallest-back s) (s .pre .0 .above, omega (arith, s .pre .0 .range))
 
-raised-requires : tie.Need-raised-requires
-raised-requires c κs = search needs
+offset-requires : tie.Need-offset-requires
+offset-requires c κs = search needs
 
 add-place : tie.Need-add-place
 add-place c =
     let s = c .before .before .before in
-    rw (place-is c, raised-is c) (omega (arith, s .pre .0 .range, raised-small (s .args .power)))
+    rw (place-is c, offset-is c) (omega (arith, s .pre .0 .range, offset-small (s .args .power)))
 
 place-of-requires-2 : tie.Need-place-of-requires-2
 place-of-requires-2 c κs =
@@ -152,7 +152,7 @@ returns-2 c f v ok held some is =
     let k = s .args .power in
     let b = s .args .bias in
     let m = s .args .smallest in
-    let place = size (v .count) - 1 + raisedOf k in
+    let place = size (v .count) - 1 + offsetOf k in
     ap (λ (o : Operand). Scaled o Exact)
     (c .normalise .ensures
     ∙ ap (normalOf (s .args .value .negative) (s .args .value .significand)) (read-back s _ _ e (omega arith) ∙ exponent-is s _ _ e (omega arith))
@@ -160,14 +160,14 @@ returns-2 c f v ok held some is =
     ∙ ap (λ (u : Unpacked). normalOf (u .negative) (u .significand) (m +ℤ pos (place - (far + 63) + 63))) is)
     ∙ sym (scaled-exact f b m ok v held some k (omega arith) (omega arith))
 
-add-cut-places : tie.Need-add-cut-places
-add-cut-places c = search needs
+add-round-places : tie.Need-add-round-places
+add-round-places c = search needs
 
-sub-cut-places : tie.Need-sub-cut-places
-sub-cut-places c = search needs
+sub-round-places : tie.Need-sub-round-places
+sub-round-places c = search needs
 
-cut-places-requires : tie.Need-cut-places-requires
-cut-places-requires c κs = search needs
+round-places-requires : tie.Need-round-places-requires
+round-places-requires c κs = search needs
 
 exponent-at-requires-2 : tie.Need-exponent-at-requires-2
 exponent-at-requires-2 c κs = search needs
@@ -188,14 +188,14 @@ returns-3 c f v ok held some is =
     let k = s .args .power in
     let b = s .args .bias in
     let m = s .args .smallest in
-    let place = size (v .count) - 1 + raisedOf k in
+    let place = size (v .count) - 1 + offsetOf k in
     let n = s .args .value .negative in
-    let r = c .before .before .cut-places .result in
+    let r = c .before .before .round-places .result in
     ap (λ (o : Operand). Scaled o (r .says))
     (c .normalise2 .ensures ∙ ap (normalOf n (r .quotient)) (read-back s _ _ e (omega arith) ∙ exponent-is s _ _ e (omega arith)))
-    ∙ ap (λ (q : Cut). Scaled (normalOf n (q .quotient) (m +ℤ pos 63)) (q .says))
-    (c .before .before .cut-places .ensures ∙ ap (λ (i : ℕ). cutOf (s .args .value .significand) (far + 63 - i)) at)
-    ∙ ap (λ (u : Unpacked). let q = cutOf (u .significand) (far + 63 - place) in Scaled (normalOf (u .negative) (q .quotient) (m +ℤ pos 63)) (q .says)) is
+    ∙ ap (λ (q : RoundedWord). Scaled (normalOf n (q .quotient) (m +ℤ pos 63)) (q .says))
+    (c .before .before .round-places .ensures ∙ ap (λ (i : ℕ). roundOf (s .args .value .significand) (far + 63 - i)) at)
+    ∙ ap (λ (u : Unpacked). let q = roundOf (u .significand) (far + 63 - place) in Scaled (normalOf (u .negative) (q .quotient) (m +ℤ pos 63)) (q .says)) is
     ∙ sym (scaled-rounded f b m ok v held some k (omega arith) (omega arith))
 
 pub scale-value-spec : {M : Type 1} → statement M
@@ -205,7 +205,7 @@ scale-value-spec =
     cast-low
     cast-highest
     place-of-requires
-    raised-requires
+    offset-requires
     add-place
     place-of-requires-2
     add-if1
@@ -216,9 +216,9 @@ scale-value-spec =
     exponent-at-requires
     normalise-requires
     returns-2
-    add-cut-places
-    sub-cut-places
-    cut-places-requires
+    add-round-places
+    sub-round-places
+    round-places-requires
     exponent-at-requires-2
     normalise-requires-2
     returns-3)

@@ -2,7 +2,7 @@
 use mir.Syntax.{w32}
 use mir.ValLaws.{toZ-ofZ}
 use Rattle.definitions.specs.Format.{x87}
-use Rattle.definitions.specs.Answers.{scaleTold80, joined}
+use Rattle.definitions.specs.Answers.{scaleMeaning80, joined}
 use Rattle.scaling.proofs.Formats.{scalable80}
 use Rattle.scaling.proofs.Told.{Told, spans, class-packable, scale-told}
 use borrow.Author.Needs.{needs}
@@ -34,11 +34,11 @@ pattern-requires : tie.Need-pattern-requires
 pattern-requires c κs = (rw (c .before .operand .given .1) at (told (c .before .before .before))) .0
 
 returns : tie.Need-returns
-unfolding scaleTold80
+unfolding scaleMeaning80
 returns c = rw (c .before .why .given .1) at (told (c .before .before .before))
 
 returns-2 : tie.Need-returns-2
-unfolding scaleTold80
+unfolding scaleMeaning80
 returns-2 c = rw (c .pattern .ensures) ((rw (c .before .before .operand .given .1) at (told (c .before .before .before .before))) .1)
 
 pub scale80-spec : {M : Type 1} → statement M

@@ -5,7 +5,7 @@ use mir.Syntax.{w32}
 use mir.Val.{toZ, ofZ}
 use mir.ValLaws.{toZ-ofZ}
 use Rattle.digits.proofs.Signed.{small-back}
-use Rattle.definitions.specs.Answers.{scaleTold}
+use Rattle.definitions.specs.Answers.{scaleMeaning}
 use Rattle.formats.specs.Shape.{formatOf}
 use Rattle.formats.proofs.Bounds.{smallest-small}
 use Rattle.scaling.specs.Operands.{Scalable}
@@ -50,11 +50,11 @@ pack-requires c κs =
     (c .before .before .before .before .before .before .pre .0, t .0)
 
 returns : tie.Need-returns
-unfolding scaleTold
+unfolding scaleMeaning
 returns c = rw (c .before .why .given .1) at (told (c .before .before .before))
 
 returns-2 : tie.Need-returns-2
-unfolding scaleTold
+unfolding scaleMeaning
 returns-2 c =
     let t = rw (c .before .before .operand .given .1) at (told (c .before .before .before .before)) in
     rw (c .pack .ensures) (t .1)

@@ -1,7 +1,7 @@
 -- `split80` meets its contract: the split operand of x87, packed. Assumes nothing.
 use Rattle.digits.proofs.Signed.{small-back}
 use Rattle.definitions.specs.Format.{x87}
-use Rattle.definitions.specs.Answers.{splitTold80, joined}
+use Rattle.definitions.specs.Answers.{splitMeaning80, joined}
 use Rattle.scaling.proofs.Formats.{scalable80}
 use Rattle.scaling.proofs.Parts.{Told, class-splittable, split-told}
 use borrow.Author.Needs.{needs}
@@ -27,11 +27,11 @@ pattern-requires : tie.Need-pattern-requires
 pattern-requires c κs = (rw (c .before .operand .given .1) at (told (c .before .before .before))) .0
 
 returns : tie.Need-returns
-unfolding splitTold80
+unfolding splitMeaning80
 returns c = rw (c .before .why .given .1) at (told (c .before .before .before))
 
 returns-2 : tie.Need-returns-2
-unfolding splitTold80
+unfolding splitMeaning80
 returns-2 c =
     let t = rw (c .before .before .operand .given .1) at (told (c .before .before .before .before)) in
     rw (c .pattern .ensures, small-back (c .before .before .operand .given .0 .1 .0) (t .1)) (t .2)

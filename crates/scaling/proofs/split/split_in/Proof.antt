@@ -1,6 +1,6 @@
 -- `split_in` meets its contract: the split operand of the shape's format, packed. Assumes nothing.
 use Rattle.digits.proofs.Signed.{small-back}
-use Rattle.definitions.specs.Answers.{splitTold}
+use Rattle.definitions.specs.Answers.{splitMeaning}
 use Rattle.formats.specs.Shape.{formatOf}
 use Rattle.scaling.specs.Operands.{Scalable}
 use Rattle.scaling.proofs.Formats.{scalable-shape}
@@ -38,11 +38,11 @@ pack-requires c κs =
     (c .before .before .before .before .before .pre .0, t .0)
 
 returns : tie.Need-returns
-unfolding splitTold
+unfolding splitMeaning
 returns c = rw (c .before .why .given .1) at (told (c .before .before .before))
 
 returns-2 : tie.Need-returns-2
-unfolding splitTold
+unfolding splitMeaning
 returns-2 c =
     let t = rw (c .before .before .operand .given .1) at (told (c .before .before .before .before)) in
     rw (c .pack .ensures, small-back (c .before .before .operand .given .0 .1 .0) (t .1)) (t .2)

@@ -1,7 +1,7 @@
 -- `run80` meets its contract: the case of an examined pair decides, and each is a law of its own. Assumes nothing.
 use mathlib.Core.Path.{ap, _∙_}
 use Rattle.definitions.specs.Format.{x87}
-use Rattle.definitions.specs.Answers.{runTold, joined}
+use Rattle.definitions.specs.Answers.{runMeaning, joined}
 use Rattle.remainder.proofs.Told.{within-x87, returned-packs}
 use Rattle.steps.specs.Written.{runWritten}
 use Rattle.steps.specs.declared.run.Ran.{Ran}
@@ -47,7 +47,7 @@ run-answer-requires-2 c κs =
     run-packs (joined (a .x)) (joined (a .y)) _ _ (j .1) (a .kind) (a .size) (a .budget) (c .run-pair .result) (c .run-pair .ensures)
 
 returns : tie.Need-returns
-unfolding runTold
+unfolding runMeaning
 returns c =
     let e = c .before .before .before in
     let a = e .before .args in

@@ -1,7 +1,7 @@
 -- `step80` meets its contract: the case of an examined pair decides, and each is a law of its own. Assumes nothing.
 use mathlib.Core.Path.{ap, _∙_}
 use Rattle.definitions.specs.Format.{x87}
-use Rattle.definitions.specs.Answers.{stepTold, joined}
+use Rattle.definitions.specs.Answers.{stepMeaning, joined}
 use Rattle.operands.specs.Operand.{classIn}
 use Rattle.remainder.proofs.Told.{within-x87, returned-packs}
 use Rattle.steps.specs.Written.{stepWritten}
@@ -49,7 +49,7 @@ step-answer-requires-2 c κs =
     step-packs (joined (a .x)) (joined (a .y)) _ _ (j .1) (a .kind) (a .size) (c .step-value .result) (c .step-value .ensures)
 
 returns : tie.Need-returns
-unfolding stepTold
+unfolding stepMeaning
 returns c =
     let e = c .before .before .before in
     let a = e .before .args in

@@ -1,4 +1,4 @@
--- `scaling::cut::cut_places` meets its contract: past 64 places and at 64 all of n is left over, and below 64 one division tells.
+-- `scaling::cut::round_places` meets its contract: past 64 places and at 64 all of n is left over, and below 64 one division tells.
 -- Assumes nothing.
 use mathlib.Core.Path.{_≡_, sym, _∙_}
 use Prim.Native.Nat.{_*_, _%_, _^_, _<_}
@@ -7,10 +7,10 @@ use native.Mathlib.Omega.{arith}
 use borrow.Author.Tests.{le-ltb}
 use lib.Pow.{pow-pos, pow-lt, pow-mono}
 use Rattle.digits.proofs.Common.{ltb-scale}
-use Rattle.rounding.proofs.TiesToEven.{cut-rounded, cut-whole, cut-room}
+use Rattle.rounding.proofs.TiesToEven.{round-rounded, round-whole, round-room}
 use borrow.Author.Needs.{needs}
-use Rattle.rounding.proofs.cut_places.Statement.{statement}
-use Rattle.rounding.proofs.cut_places.Tie as tie
+use Rattle.rounding.proofs.round_places.Statement.{statement}
+use Rattle.rounding.proofs.round_places.Tie as tie
 
 -- below 64 places: the power fits the machine, and so does twice what it leaves over, and one more
 module _ (c : tie.Else2) where
@@ -27,7 +27,7 @@ returns : tie.Need-returns
 returns c =
     let a = c .before .before .args in
     let p = pow-mono {i = 65} {j = a .places} (omega arith) in
-    c .rounded .ensures ∙ rw (cut-whole (a .n) (a .places) (omega arith), le-ltb (2 ^ a .places) (a .n * 2) (omega arith))
+    c .rounded .ensures ∙ rw (round-whole (a .n) (a .places) (omega arith), le-ltb (2 ^ a .places) (a .n * 2) (omega arith))
 
 rounded-requires-2 : tie.Need-rounded-requires-2
 rounded-requires-2 c κs = search needs
@@ -35,7 +35,7 @@ rounded-requires-2 c κs = search needs
 returns-2 : tie.Need-returns-2
 returns-2 c =
     let a = c .before .before .before .args in
-    c .rounded2 .ensures ∙ rw (c .before .if2 .taken, cut-whole (a .n) 64 (omega arith), ltb-scale (2 ^ 63) (a .n) 2 (omega arith))
+    c .rounded2 .ensures ∙ rw (c .before .if2 .taken, round-whole (a .n) 64 (omega arith), ltb-scale (2 ^ 63) (a .n) 2 (omega arith))
 
 shl-power : tie.Need-shl-power
 shl-power c = search needs
@@ -53,15 +53,15 @@ add-rounded : tie.Need-add-rounded
 add-rounded c = rw (power c) (omega (arith, left-over c))
 
 rounded-requires-3 : tie.Need-rounded-requires-3
-rounded-requires-3 c κs = rw (power c) (λ h. omega (arith, cut-room (c .before .before .args .n) (c .before .before .args .places) h))
+rounded-requires-3 c κs = rw (power c) (λ h. omega (arith, round-room (c .before .before .args .n) (c .before .before .args .places) h))
 
 returns-3 : tie.Need-returns-3
 returns-3 c =
     let a = c .before .before .before .args in
-    c .rounded3 .ensures ∙ rw (power (c .before)) (sym (cut-rounded (a .n) (a .places)))
+    c .rounded3 .ensures ∙ rw (power (c .before)) (sym (round-rounded (a .n) (a .places)))
 
-pub cut-places-spec : {M : Type 1} → statement M
-cut-places-spec =
+pub round-places-spec : {M : Type 1} → statement M
+round-places-spec =
     tie.close
     (tie.spec
     rounded-requires

@@ -1,4 +1,4 @@
--- `raised` meets its contract: 32 places or more leave no low bit. Assumes nothing.
+-- `shifted` meets its contract: 32 places or more leave no low bit. Assumes nothing.
 use mathlib.Core.Path.{sym}
 use Prim.Native.Nat.{_-_, _*_, _^_, _≤_}
 use native.Mathlib.Nat.{mul-le-mul, mod-eq-zero-of-dvd, dvd-trans, dvd-mul-left}
@@ -6,8 +6,8 @@ use native.Mathlib.Omega.{arith}
 use lib.Pow.{pow-mono}
 use Rattle.digits.proofs.Digits.{pow-dvd}
 use borrow.Author.Needs.{needs}
-use Rattle.partial.proofs.raised.Statement.{statement}
-use Rattle.partial.proofs.raised.Tie as tie
+use Rattle.partial.proofs.shifted.Statement.{statement}
+use Rattle.partial.proofs.shifted.Tie as tie
 
 returns : tie.Need-returns
 returns c =
@@ -30,5 +30,5 @@ cast-result c = search needs
 returns-2 : tie.Need-returns-2
 returns-2 c = rw (c .power-of-two .ensures)
 
-pub raised-spec : {M : Type 1} → statement M
-raised-spec = tie.close (tie.spec returns power-of-two-requires mul-result cast-result returns-2)
+pub shifted-spec : {M : Type 1} → statement M
+shifted-spec = tie.close (tie.spec returns power-of-two-requires mul-result cast-result returns-2)

@@ -17,80 +17,80 @@ use Rattle.definitions.specs.Division.{roundsUp}
 use Rattle.definitions.specs.declared.Kind.the-variants.{Nearest}
 use Rattle.definitions.specs.declared.Rounding.{Rounding}
 use Rattle.definitions.specs.declared.Rounding.the-variants.{Exact, Up, Down}
-use Rattle.definitions.specs.Cut.{Rounded, direction, cut}
+use Rattle.definitions.specs.Round.{Rounded, direction, round}
 use Rattle.laws.proofs.Division.{up-scale, rounds-up-once}
 
 -- where nothing is left over
-pub cut-exact : (n k : ℕ) → n % 2 ^ k ≡ 0 → cut n k ≡ record { quotient = n / 2 ^ k; says = Exact }
-unfolding cut
-cut-exact n k e = rw (e, le-ltb (2 ^ k) 0 (omega arith), not-zero (2 ^ k) (pow-pos k))
+pub round-exact : (n k : ℕ) → n % 2 ^ k ≡ 0 → round n k ≡ record { quotient = n / 2 ^ k; says = Exact }
+unfolding round
+round-exact n k e = rw (e, le-ltb (2 ^ k) 0 (omega arith), not-zero (2 ^ k) (pow-pos k))
 
-pub cut-multiple : (q k : ℕ) → cut (q * 2 ^ k) k ≡ record { quotient = q; says = Exact }
-cut-multiple q k = cut-exact (q * 2 ^ k) k (mul-mod-left q (2 ^ k)) ∙ rw (mul-div-cancel q (pow-pos k))
+pub round-multiple : (q k : ℕ) → round (q * 2 ^ k) k ≡ record { quotient = q; says = Exact }
+round-multiple q k = round-exact (q * 2 ^ k) k (mul-mod-left q (2 ^ k)) ∙ rw (mul-div-cancel q (pow-pos k))
 
 -- the place in which a number is written does not matter
-cut-finer : (n k i : ℕ) → cut (n * 2 ^ i) (k + i) ≡ cut n k
-unfolding cut
-cut-finer n k i =
+round-finer : (n k i : ℕ) → round (n * 2 ^ i) (k + i) ≡ round n k
+unfolding round
+round-finer n k i =
     let d = 2 ^ k in
     let c = 2 ^ i in
     let e : eqb (n % d * c) 0 ≡ eqb (n % d) 0 = rw zero-mul at (eqb-scale (n % d) 0 c (pow-pos i)) in
     rw (pow-add 2 k i, mul-div-mul-right n d (pow-pos i), mod-scale n d c (pow-pos k) (pow-pos i), up-scale Nearest (n / d) (n % d) d c (pow-pos i), e)
 
-pub cut-same : (n k i m l j : ℕ) → n * 2 ^ i ≡ m * 2 ^ j → k + i ≡ l + j → cut n k ≡ cut m l
-cut-same n k i m l j e f = sym (cut-finer n k i) ∙ rw (e, f) (cut-finer m l j)
+pub round-same : (n k i m l j : ℕ) → n * 2 ^ i ≡ m * 2 ^ j → k + i ≡ l + j → round n k ≡ round m l
+round-same n k i m l j e f = sym (round-finer n k i) ∙ rw (e, f) (round-finer m l j)
 
 and-false : (t : Bool) → t && false ≡ false
 and-false true = refl
 and-false false = refl
 
 -- nothing is left of at most a half
-pub cut-nothing : (n k : ℕ) → 0 < n → 2 * n ≤ 2 ^ k → cut n k ≡ record { quotient = 0; says = Down }
-unfolding cut
-cut-nothing n k some h =
+pub round-nothing : (n k : ℕ) → 0 < n → 2 * n ≤ 2 ^ k → round n k ≡ record { quotient = 0; says = Down }
+unfolding round
+round-nothing n k some h =
     let l : n < 2 ^ k = omega arith in
     rw (div-eq-of-lt l, mod-eq-of-lt l, not-zero n some, le-ltb (2 ^ k) (2 * n) h, and-false (eqb (2 ^ k) (2 * n)))
 
 -- a quotient is at most one more than the plain one
-cut-near : (n k : ℕ) → cut n k .quotient ≤ n / 2 ^ k + 1
-unfolding cut
-cut-near n k = go (roundsUp Nearest (n / 2 ^ k) (n % 2 ^ k) (2 ^ k))
+round-near : (n k : ℕ) → round n k .quotient ≤ n / 2 ^ k + 1
+unfolding round
+round-near n k = go (roundsUp Nearest (n / 2 ^ k) (n % 2 ^ k) (2 ^ k))
   where
     go : (u : Bool) → cond u (n / 2 ^ k + 1) (n / 2 ^ k) ≤ n / 2 ^ k + 1
     go true = omega arith
     go false = omega arith
 
 -- and no more than what is cut
-pub cut-le : (n k : ℕ) → cut n k .quotient ≤ n
-cut-le n k = go (eqb (n % 2 ^ k) 0) (eqb-true (n % 2 ^ k) 0) (eqb-false (n % 2 ^ k) 0)
+pub round-le : (n k : ℕ) → round n k .quotient ≤ n
+round-le n k = go (eqb (n % 2 ^ k) 0) (eqb-true (n % 2 ^ k) 0) (eqb-false (n % 2 ^ k) 0)
   where
-    go : (t : Bool) → (t ≡ true → n % 2 ^ k ≡ 0) → (t ≡ false → n % 2 ^ k ≡ 0 → ⊥) → cut n k .quotient ≤ n
-    go true a b = rw (cut-exact n k (a refl)) (div-le-self n (2 ^ k))
+    go : (t : Bool) → (t ≡ true → n % 2 ^ k ≡ 0) → (t ≡ false → n % 2 ^ k ≡ 0 → ⊥) → round n k .quotient ≤ n
+    go true a b = rw (round-exact n k (a refl)) (div-le-self n (2 ^ k))
     go false a b =
         let r = mod-lt n (pow-pos k) in
         let some : 0 < n % 2 ^ k = pos-of-ne-zero (b refl) in
         let l : n / 2 ^ k < n = div-lt-self (omega (arith, mod-le n (2 ^ k))) (omega arith) in
-        omega (arith, cut-near n k)
+        omega (arith, round-near n k)
 
 -- a number of at most p digits keeps that: it loses only zeros, or there is room for one more
-pub cut-digits : (p n k : ℕ) → 1 ≤ p → Digits p n → Digits p (cut n k .quotient)
-cut-digits p n k h d = go (leb k a) (leb→le k a) (nleb→lt k a)
+pub round-digits : (p n k : ℕ) → 1 ≤ p → Digits p n → Digits p (round n k .quotient)
+round-digits p n k h d = go (leb k a) (leb→le k a) (nleb→lt k a)
   where
     a : ℕ
     a = size n - p
 
-    go : (t : Bool) → (T t → k ≤ a) → (T (not t) → a < k) → Digits p (cut n k .quotient)
+    go : (t : Bool) → (T t → k ≤ a) → (T (not t) → a < k) → Digits p (round n k .quotient)
     go true f g =
         let l = f tt in
         let s = n / 2 ^ a in
         let m : s * 2 ^ (a - k) * 2 ^ k ≡ n = shift-back s a k l ∙ div-mul-cancel (2 ^ a) (digits-dvd p n d) in
-        let c : cut n k .quotient ≡ s * 2 ^ (a - k) = rw m at (ap (λ (c : Rounded). c .quotient) (cut-multiple (s * 2 ^ (a - k)) k)) in
+        let c : round n k .quotient ≡ s * 2 ^ (a - k) = rw m at (ap (λ (c : Rounded). c .quotient) (round-multiple (s * 2 ^ (a - k)) k)) in
         rw c (digits-intro p (a - k) (s * 2 ^ (a - k)) (dvd-mul-left (2 ^ (a - k)) s) (shl-lt p (a - k) (kept-lt p n)))
     go false f g =
         let l : n / 2 ^ k < 2 ^ (p - 1) = shr-lt (p - 1) k (lt-of-lt-of-le (digits-lt p n) (pow-mono (omega (arith, g tt)))) in
-        let q = cut-near n k in
+        let q = round-near n k in
         let w : 2 ^ (p - 1) < 2 ^ (p + 0) = pow-lt (omega arith) in
-        digits-intro p 0 (cut n k .quotient) (one-dvd (cut n k .quotient)) (omega arith)
+        digits-intro p 0 (round n k .quotient) (one-dvd (round n k .quotient)) (omega arith)
 
 -- ---- what rounding is, said without its definition
 
@@ -115,9 +115,9 @@ above-told m n h = rw (ne-eqb m n (λ e. omega arith), lt-ltb n m h)
 below-told : (m n : ℕ) → m < n → Down ≡ against m n
 below-told m n h = rw (ne-eqb m n (λ e. omega arith), le-ltb n m (omega arith))
 
-pub cut-closest : (n k : ℕ) → Closest n (2 ^ k) (cut n k .quotient) (cut n k .says)
-unfolding cut
-cut-closest n k = rw (rounds-up-once q r d) (go (ltb d (r * 2 + q % 2)) (eqb r 0) refl refl)
+pub round-closest : (n k : ℕ) → Closest n (2 ^ k) (round n k .quotient) (round n k .says)
+unfolding round
+round-closest n k = rw (rounds-up-once q r d) (go (ltb d (r * 2 + q % 2)) (eqb r 0) refl refl)
   where
     d : ℕ
     d = 2 ^ k

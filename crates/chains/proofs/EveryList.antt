@@ -8,34 +8,34 @@ use Rattle.definitions.specs.Class.{Value, finite}
 use Rattle.definitions.specs.Format.{classOf, patternOf, patterns, x87}
 use Rattle.definitions.specs.Numbers.{numberOf, checks, first}
 use Rattle.definitions.specs.declared.Kind.{Kind}
-use Rattle.definitions.specs.Division.{Reply, by, finish}
-use Rattle.definitions.specs.Remainder.{shown, remainderOf, remainder}
+use Rattle.definitions.specs.Division.{Outcome, by, finish}
+use Rattle.definitions.specs.Remainder.{quotientBits, remainderOf, remainder}
 use Rattle.definitions.specs.Steps as Steps
 use Rattle.definitions.specs.Reports.{Report, nothing, sized, reportOf}
-use Rattle.definitions.specs.Calls.{Call, run, answer, Taken, taken, lastValue, totalBudget, valueAt, Demand3}
-use Rattle.chains.proofs.Reply.{sound-finished, sound-bound, sound-ends}
+use Rattle.definitions.specs.Calls.{Call, run, answer, Taken, taken, lastValue, totalBudget, valueAt, EveryList}
+use Rattle.chains.proofs.Outcome.{sound-finished, sound-bound, sound-ends}
 use Rattle.chains.proofs.Lists.{listed-taken, ListTells, list-good, list-tells}
 use Rattle.chains.proofs.Answer.{answer-is, State, finite-written, written-value, written-state, answer-tells}
 
 -- the remainder in one call of two finite operands, the divisor not zero
 pub remainder-is : (κ : Kind) (x y : ℕ) (v w : Value) → classOf x87 x ≡ finite v → classOf x87 y ≡ finite w → 0 < w .count
     → let r = finish κ (by (w .count)) v in
-    remainder x87 κ x y ≡ record { number = 0; value = patternOf x87 (finite (r .value)); quotient = shown (r .whole) }
+    remainder x87 κ x y ≡ record { number = 0; value = patternOf x87 (finite (r .value)); quotient = quotientBits (r .whole) }
 unfolding remainder remainderOf numberOf checks first
 remainder-is κ x y v w ex ey p = rw (ex, ey, not-zero (w .count) p)
 
 -- what an accepted run reports
-abbrev runTells : Reply → Report ℕ
-runTells r = record { number = cond (r .done) 0 7; value = patternOf x87 (finite (r .value)); quotient = shown (r .whole); steps = r .steps }
+abbrev runTells : Outcome → Report ℕ
+runTells r = record { number = cond (r .done) 0 7; value = patternOf x87 (finite (r .value)); quotient = quotientBits (r .whole); steps = r .steps }
 
 run-is : (κ : Kind) (n b x y : ℕ) (v w : Value) → classOf x87 x ≡ finite v → classOf x87 y ≡ finite w → 0 < w .count → sized n ≡ true
     → answer κ y (run nothing n b) x ≡ runTells (Steps.run κ n b (by (w .count)) v)
 run-is κ n b x y v w ex ey p z = answer-is κ (run nothing n b) x y v w ex ey p ∙ rw z (go (Steps.run κ n b (by (w .count)) v .done))
   where
-    r : Reply
+    r : Outcome
     r = Steps.run κ n b (by (w .count)) v
 
-    go : (d : Bool) → reportOf (cond d 0 7) r ≡ record { number = cond d 0 7; value = patternOf x87 (finite (r .value)); quotient = shown (r .whole); steps = r .steps }
+    go : (d : Bool) → reportOf (cond d 0 7) r ≡ record { number = cond d 0 7; value = patternOf x87 (finite (r .value)); quotient = quotientBits (r .whole); steps = r .steps }
     go true = refl
     go false = refl
 
@@ -54,7 +54,7 @@ module _ (κ : Kind) (x y : ℕ) (w : Value) (cs : List Call) (sx : State x) (ey
       ap (λ (z : Value). patternOf x87 (finite z)) (sym (told .reached ∙ e))
       ∙ list-good valueAt State κ w (answer κ y) p (answer-tells κ y w ey p) cs x sx .pattern
 
-  claim : Demand3 κ x y (valueAt x) w cs calls
+  claim : EveryList κ x y (valueAt x) w cs calls
   unfolding calls
   claim =
       let r = told .reply in
@@ -67,16 +67,16 @@ module _ (κ : Kind) (x y : ℕ) (w : Value) (cs : List Call) (sx : State x) (ey
         whole = λ f.
             let e = sound-finished κ m (valueAt x) r (told .sound) (sym (told .done) ∙ f) in
             remainder-is κ x y (valueAt x) w (sx .read) ey p
-            ∙ (λ i. record { number = 0; value = last (finish κ (by m) (valueAt x) .value) (e .value) i; quotient = (ap shown (sym (e .whole)) ∙ sym (told .quotient)) i });
+            ∙ (λ i. record { number = 0; value = last (finish κ (by m) (valueAt x) .value) (e .value) i; quotient = (ap quotientBits (sym (e .whole)) ∙ sym (told .quotient)) i });
         exact = rw (told .reached) (told .exact);
         one = λ n rs s.
             run-is κ n (totalBudget calls) x y (valueAt x) w (sx .read) ey p (told .size n rs s) ∙ ap runTells (sym (told .one n rs))
             ∙ (λ i. record { number = sym (told .number n rs) i; value = last (r .value) refl i; quotient = sym (told .quotient) i; steps = sym (told .steps) i });
       }
 
-pub demand3 : (κ : Kind) (x y : ℕ) (v w : Value) (cs : List Call) → x < patterns x87 → classOf x87 x ≡ finite v
-    → classOf x87 y ≡ finite w → 0 < w .count → Demand3 κ x y v w cs (taken (answer κ y) cs x)
+pub everyList : (κ : Kind) (x y : ℕ) (v w : Value) (cs : List Call) → x < patterns x87 → classOf x87 x ≡ finite v
+    → classOf x87 y ≡ finite w → 0 < w .count → EveryList κ x y v w cs (taken (answer κ y) cs x)
 unfolding calls
-demand3 κ x y v w cs lx ex ey p =
+everyList κ x y v w cs lx ex ey p =
     let h = finite-written x v lx ex in
-    subst (λ (u : Value). Demand3 κ x y u w cs (taken (answer κ y) cs x)) (written-value h) (claim κ x y w cs (written-state h) ey p)
+    subst (λ (u : Value). EveryList κ x y u w cs (taken (answer κ y) cs x)) (written-value h) (claim κ x y w cs (written-state h) ey p)

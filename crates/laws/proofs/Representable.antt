@@ -11,7 +11,7 @@ use lib.Ieee.Digits.{size-le}
 use lib.Ieee.Fits.{kept-lt}
 use Rattle.digits.proofs.Size.{size-zero, size-between, size-shift}
 use Rattle.digits.proofs.Digits.{digits-intro, digits-dvd}
-use Rattle.definitions.specs.Format.{Format, Held, Regular, leading, reach, body, magnitude}
+use Rattle.definitions.specs.Format.{Format, Representable, Regular, leading, reach, body, magnitude}
 
 -- The significand s of a count that has dropped j low digits: it fits, it has its leading digit unless none are dropped,
 -- and the count is in range.
@@ -26,7 +26,7 @@ leading-twice f r =
     subst (λ (p : ℕ). 2 ^ p ≡ leading f + leading f) e (two-pow-succ (f .precision - 1))
 
 -- what a held count has dropped, and what is left
-pub held-placed : (f : Format) → Regular f → (n : ℕ) → Held f n → Placed f (size n - f .precision) (n / 2 ^ (size n - f .precision))
+pub held-placed : (f : Format) → Regular f → (n : ℕ) → Representable f n → Placed f (size n - f .precision) (n / 2 ^ (size n - f .precision))
 held-placed f r n h =
     record {
       small = kept-lt (f .precision) n;
@@ -38,11 +38,11 @@ held-placed f r n h =
     j = size n - f .precision
 
 -- nothing is lost
-pub held-count : (f : Format) (n : ℕ) → Held f n → n / 2 ^ (size n - f .precision) * 2 ^ (size n - f .precision) ≡ n
+pub held-count : (f : Format) (n : ℕ) → Representable f n → n / 2 ^ (size n - f .precision) * 2 ^ (size n - f .precision) ≡ n
 held-count f n h = div-mul-cancel (2 ^ (size n - f .precision)) (digits-dvd (f .precision) n (h .digits))
 
 -- the other way: each such count is held
-pub shifted-held : (f : Format) (j s : ℕ) → s < 2 ^ f .precision → f .precision + j ≤ reach f → Held f (s * 2 ^ j)
+pub shifted-held : (f : Format) (j s : ℕ) → s < 2 ^ f .precision → f .precision + j ≤ reach f → Representable f (s * 2 ^ j)
 shifted-held f j s l g =
     let b = shl-lt (f .precision) j l in
     record {
@@ -50,7 +50,7 @@ shifted-held f j s l g =
       range = le-trans (size-le (s * 2 ^ j) (f .precision + j) b) g;
     }
 
-pub placed-held : (f : Format) (j s : ℕ) → Placed f j s → Held f (s * 2 ^ j)
+pub placed-held : (f : Format) (j s : ℕ) → Placed f j s → Representable f (s * 2 ^ j)
 placed-held f j s p = shifted-held f j s (p .small) (p .range)
 
 -- and its j and s are the ones that are dropped and left
@@ -86,17 +86,17 @@ size-largest f r =
     let d = size-shift (2 ^ f .precision - 1) (reach f - f .precision) (omega arith) in
     omega (arith, size-ones (f .precision))
 
-pub largest-held : (f : Format) → Regular f → Held f (largest f)
+pub largest-held : (f : Format) → Regular f → Representable f (largest f)
 largest-held f r = shifted-held f (reach f - f .precision) (2 ^ f .precision - 1) (ones-lt (f .precision)) (omega arith)
 
-pub largest-most : (f : Format) → Regular f → (n : ℕ) → Held f n → n ≤ largest f
+pub largest-most : (f : Format) → Regular f → (n : ℕ) → Representable f n → n ≤ largest f
 largest-most f r n h =
     let p = held-placed f r n h in
     let l : size n - f .precision ≤ reach f - f .precision = omega (arith, p .range) in
     rw held-count at (mul-le-mul (le-ones (f .precision) (p .small)) (pow-mono l))
 
-pub one-held : (f : Format) → Regular f → Held f 1
+pub one-held : (f : Format) → Regular f → Representable f 1
 one-held f r = shifted-held f 0 1 (pow-lt {i = 0} (omega arith)) (omega arith)
 
-pub zero-held : (f : Format) → Held f 0
+pub zero-held : (f : Format) → Representable f 0
 zero-held f = record { digits = zero-mod (2 ^ (size 0 - f .precision)); range = rw size-zero (omega arith) }

@@ -8,16 +8,16 @@ use Rattle.digits.proofs.Tests.{clash}
 use Rattle.definitions.specs.Class.{Value, gap}
 use Rattle.definitions.specs.declared.Kind.{Kind}
 use Rattle.definitions.specs.declared.Kind.the-variants.{Truncated, Nearest}
-use Rattle.definitions.specs.Division.{Reply, by, roundsUp, finish, finishBy}
+use Rattle.definitions.specs.Division.{Outcome, by, roundsUp, finish, finishBy}
 use Rattle.definitions.specs.Steps.{cutAt, step, followed, mostSteps}
 use Rattle.definitions.specs.Reports.{sized}
 use Rattle.chains.proofs.Step.{excess, used-places, most-pos, most-falls, cut-size, step-cases}
 
 -- r, and where it has not finished s from its value
-abbrev pub continued : Reply → Reply → Reply
+abbrev pub continued : Outcome → Outcome → Outcome
 continued r s = cond (r .done) r (followed r s)
 
-pub followed-continued : (r s t : Reply) → followed r (continued s t) ≡ continued (followed r s) t
+pub followed-continued : (r s t : Outcome) → followed r (continued s t) ≡ continued (followed r s) t
 followed-continued r s t = go (s .done)
   where
     go : (d : Bool) → followed r (cond d s (followed s t)) ≡ cond d (followed r s) (followed (followed r s) t)
@@ -34,7 +34,7 @@ whole-shift : (up : Bool) (q w : ℕ) → cond up (q + w + 1) (q + w) ≡ w + co
 whole-shift true q w = omega arith
 whole-shift false q w = omega arith
 
-abbrev pub shifted : ℕ → Reply → Reply
+abbrev pub shifted : ℕ → Outcome → Outcome
 shifted w r = record { done = r .done; value = r .value; whole = w + r .whole; steps = r .steps }
 
 pub finish-shift : (κ : Kind) (m : ℕ) (s : Bool) (n w : ℕ) → 0 < m → w % 2 ≡ 0
@@ -43,36 +43,36 @@ unfolding finish finishBy
 finish-shift κ m s n w h e = rw (add-mul-div-left n w, add-mul-mod-self-left n m w, up-shift κ (n / m) w (n % m) m e, whole-shift)
 
 -- What holds of a reply to x that has not finished: the parts taken so far are even, so that a finishing step may round by its own part alone.
-pub record Unfinished (m : ℕ) (x : Value) (r : Reply) : Type 0 where
+pub record Unfinished (m : ℕ) (x : Value) (r : Outcome) : Type 0 where
   pub sign : r .value .negative ≡ x .negative
   pub sum : x .count ≡ r .value .count + m * r .whole
   pub even : r .whole % 2 ≡ 0
   pub room : r .steps + mostSteps (gap (r .value .count) m) ≤ mostSteps (gap (x .count) m)
 
 -- and of one that has
-pub record Finished (κ : Kind) (m : ℕ) (x : Value) (r : Reply) : Type 0 where
+pub record Finished (κ : Kind) (m : ℕ) (x : Value) (r : Outcome) : Type 0 where
   pub value : r .value ≡ finish κ (by m) x .value
   pub whole : r .whole ≡ finish κ (by m) x .whole
   pub room : r .steps ≤ mostSteps (gap (x .count) m)
 
-abbrev Ended : Bool → Kind → ℕ → Value → Reply → Type 0
+abbrev Ended : Bool → Kind → ℕ → Value → Outcome → Type 0
 Ended true κ m x r = Finished κ m x r
 Ended false κ m x r = Unfinished m x r
 
-abbrev pub Sound : Kind → ℕ → Value → Reply → Type 0
+abbrev pub Sound : Kind → ℕ → Value → Outcome → Type 0
 Sound κ m x r = Ended (r .done) κ m x r
 
-pub sound-finished : (κ : Kind) (m : ℕ) (x : Value) (r : Reply) → Sound κ m x r → r .done ≡ true → Finished κ m x r
+pub sound-finished : (κ : Kind) (m : ℕ) (x : Value) (r : Outcome) → Sound κ m x r → r .done ≡ true → Finished κ m x r
 sound-finished κ m x r h e = subst (λ (d : Bool). Ended d κ m x r) e h
 
-pub sound-bound : (κ : Kind) (m : ℕ) (x : Value) (r : Reply) → Sound κ m x r → r .steps ≤ mostSteps (gap (x .count) m)
+pub sound-bound : (κ : Kind) (m : ℕ) (x : Value) (r : Outcome) → Sound κ m x r → r .steps ≤ mostSteps (gap (x .count) m)
 sound-bound κ m x r = go (r .done)
   where
     go : (d : Bool) → Ended d κ m x r → r .steps ≤ mostSteps (gap (x .count) m)
     go true h = h .room
     go false h = omega arith
 
-pub sound-ends : (κ : Kind) (m : ℕ) (x : Value) (r : Reply) → Sound κ m x r → mostSteps (gap (x .count) m) ≤ r .steps → r .done ≡ true
+pub sound-ends : (κ : Kind) (m : ℕ) (x : Value) (r : Outcome) → Sound κ m x r → mostSteps (gap (x .count) m) ≤ r .steps → r .done ≡ true
 sound-ends κ m x r h l = go (r .done) h
   where
     go : (d : Bool) → Ended d κ m x r → d ≡ true
@@ -112,13 +112,13 @@ sound-step κ n m x p z =
     (λ e q l j i. let u = used-places n (gap (x .count) m) z l in sound-cut κ m j x p (omega arith) (rw i (u .0)) (omega arith))
 
 -- finishing what is left finishes the first dividend, and the quotient is what is missing of it
-unfinished-finish : (κ : Kind) (m : ℕ) (x : Value) (r : Reply) → 0 < m → Unfinished m x r → finish κ (by m) x ≡ shifted (r .whole) (finish κ (by m) (r .value))
+unfinished-finish : (κ : Kind) (m : ℕ) (x : Value) (r : Outcome) → 0 < m → Unfinished m x r → finish κ (by m) x ≡ shifted (r .whole) (finish κ (by m) (r .value))
 unfinished-finish κ m x r p g =
     let e : x ≡ record { negative = r .value .negative; count = r .value .count + m * r .whole } = λ i. record { negative = sym (g .sign) i; count = g .sum i } in
     ap (finish κ (by m)) e ∙ finish-shift κ m (r .value .negative) (r .value .count) (r .whole) p (g .even)
 
 -- one reply after another
-pub sound-followed : (κ : Kind) (m : ℕ) (x : Value) (r s : Reply) → 0 < m → r .done ≡ false → Sound κ m x r → Sound κ m (r .value) s
+pub sound-followed : (κ : Kind) (m : ℕ) (x : Value) (r s : Outcome) → 0 < m → r .done ≡ false → Sound κ m x r → Sound κ m (r .value) s
     → Sound κ m x (followed r s)
 sound-followed κ m x r s p e f = go (s .done) (subst (λ (d : Bool). Ended d κ m x r) e f)
   where
@@ -126,13 +126,13 @@ sound-followed κ m x r s p e f = go (s .done) (subst (λ (d : Bool). Ended d κ
     go true g h =
         let f = unfinished-finish κ m x r p g in
         record {
-          value = h .value ∙ sym (ap (λ (z : Reply). z .value) f);
-          whole = ap (λ (z : ℕ). r .whole + z) (h .whole) ∙ sym (ap (λ (z : Reply). z .whole) f);
+          value = h .value ∙ sym (ap (λ (z : Outcome). z .value) f);
+          whole = ap (λ (z : ℕ). r .whole + z) (h .whole) ∙ sym (ap (λ (z : Outcome). z .whole) f);
           room = omega arith;
         }
     go false g h = record { sign = h .sign ∙ g .sign; sum = omega arith; even = omega arith; room = omega arith }
 
-pub sound-continued : (κ : Kind) (m : ℕ) (x : Value) (r s : Reply) → 0 < m → Sound κ m x r → Sound κ m (r .value) s → Sound κ m x (continued r s)
+pub sound-continued : (κ : Kind) (m : ℕ) (x : Value) (r s : Outcome) → 0 < m → Sound κ m x r → Sound κ m (r .value) s → Sound κ m x (continued r s)
 sound-continued κ m x r s p g h = go (r .done) refl
   where
     go : (d : Bool) → r .done ≡ d → Sound κ m x (cond d r (followed r s))

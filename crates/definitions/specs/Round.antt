@@ -18,8 +18,8 @@ direction false true = Up
 direction false false = Down
 
 -- "rounded once, ties to even": n / 2 ^ k to the nearest whole number, a half going to the even one
-unfoldable pub cut : ℕ → ℕ → Rounded
-cut n k =
+unfoldable pub round : ℕ → ℕ → Rounded
+round n k =
     let d = 2 ^ k in
     let q = n / d in
     let r = n % d in
