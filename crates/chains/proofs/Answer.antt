@@ -1,11 +1,12 @@
 -- The answers of step and run on x87 patterns: their numbers, and what an accepted one tells. Assumes nothing.
 use mathlib.Core.Path.{_≡_, refl, sym, ap, subst}
 use mathlib.Core.Bool.{Bool, true, false, not, cond}
+use mathlib.Core.List.{[], _∷_, _++_}
 use Prim.Native.Nat.{ℕ, zero, suc, _<_}
 use Rattle.digits.proofs.Tests.{clash, not-zero}
 use Rattle.definitions.specs.Class.{Value, finite}
 use Rattle.definitions.specs.Format.{Format, Representable, classOf, patternOf, patterns, x87}
-use Rattle.definitions.specs.Numbers.{numberOf, checks, first, accepted}
+use Rattle.definitions.specs.Numbers.{check, first, accepted, dividing}
 use Rattle.definitions.specs.declared.Kind.{Kind}
 use Rattle.definitions.specs.Division.{Outcome, by, finish, dividendOf}
 use Rattle.definitions.specs.Steps as Steps
@@ -27,12 +28,12 @@ lentOf (run l n b) = l
 abbrev pub callNumber : Call → Bool → ℕ
 callNumber c d = cond (fitting (lentOf c)) (cond (sized (sizeOf c)) (cond d 0 (openNumber c)) 6) 9
 
-number-finite : (l : Lent) (n : ℕ) (v w : Value) (s p : Bool) → 0 < w .count
-    → numberOf (calling l n (finite v) (finite w) s p) ≡ cond (fitting l) (cond (sized n) (cond s 7 (cond p 1 0)) 6) 9
-unfolding numberOf checks first
-number-finite l n v w s p h = rw (not-zero (w .count) h) (go (fitting l) (sized n))
+number-finite : (l : Lent) (n : ℕ) (v w : Value) (u : ℕ) (t : Bool) → 0 < w .count
+    → first (calling l n ++ (dividing (finite v) (finite w) ++ (check u t ∷ []))) ≡ cond (fitting l) (cond (sized n) (cond t u 0) 6) 9
+unfolding first
+number-finite l n v w u t h = rw (not-zero (w .count) h) (go (fitting l) (sized n))
   where
-    go : (f g : Bool) → _≡_ {A = ℕ} (cond (not f) 9 (cond (not g) 6 (cond s 7 (cond p 1 0)))) (cond f (cond g (cond s 7 (cond p 1 0)) 6) 9)
+    go : (f g : Bool) → _≡_ {A = ℕ} (cond (not f) 9 (cond (not g) 6 (cond t u 0))) (cond f (cond g (cond t u 0) 6) 9)
     go true true = refl
     go true false = refl
     go false g = refl
@@ -45,9 +46,9 @@ pub answer-is : (κ : Kind) (c : Call) (x y : ℕ) (v w : Value) → classOf x87
     → answer κ y c x ≡ reportOf (callNumber c (callReply κ (w .count) c v .done)) (callReply κ (w .count) c v)
 unfolding answer stepReport runReport
 answer-is κ (step l n) x y v w ex ey p =
-    rw (ex, ey, run-one κ n (by (w .count)) v, number-finite l n v w false (not (Steps.step κ n (by (w .count)) v .done)) p, cond-not)
+    rw (ex, ey, run-one κ n (by (w .count)) v, number-finite l n v w 1 (not (Steps.step κ n (by (w .count)) v .done)) p, cond-not)
 answer-is κ (run l n b) x y v w ex ey p =
-    rw (ex, ey, number-finite l n v w (not (Steps.run κ n b (by (w .count)) v .done)) false p, cond-not)
+    rw (ex, ey, number-finite l n v w 7 (not (Steps.run κ n b (by (w .count)) v .done)) p, cond-not)
 
 -- "A refused call adds 0 to both": no steps and no quotient bits
 pub refused-adds : (κ : Kind) (y : ℕ) (c : Call) (x : ℕ) → accepted (answer κ y c x .number) ≡ false → (answer κ y c x .steps ≡ 0) × (answer κ y c x .quotient ≡ 0)

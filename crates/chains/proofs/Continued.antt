@@ -10,7 +10,7 @@ use lib.Dec.{eqb}
 use Rattle.digits.proofs.Tests.{clash}
 use Rattle.definitions.specs.Class.{Value, Class, unsupported, nan, infinite, finite}
 use Rattle.definitions.specs.Format.{Representable, classOf, patternOf, x87}
-use Rattle.definitions.specs.Numbers.{numberOf, checks, first, isZero}
+use Rattle.definitions.specs.Numbers.{first, isZero}
 use Rattle.definitions.specs.Remainder.{quotientModulus}
 use Rattle.definitions.specs.declared.Kind.{Kind}
 use Rattle.definitions.specs.Division.{Outcome, unbounded, finish, dividendOf, divisorOf}
@@ -61,14 +61,14 @@ module _ (l : Lent) (κ : Kind) (n y : ℕ) where
   -- a run of a finite dividend where nothing is refused
   plain : (x b : ℕ) (v : Value) → classOf x87 x ≡ finite v → ((k : ℕ) → numbered l n (finite v) (classOf x87 y) k ≡ k)
       → runReport l κ n b x y ≡ told (run κ n b (divisorOf (classOf x87 y)) v)
-  unfolding runReport numberOf checks first
+  unfolding runReport first
   plain x b v e k =
       let r = run κ n b (divisorOf (classOf x87 y)) v in
       rw e (ap (λ (q : ℕ). reportOf q r) (k (cond (not (r .done)) 7 0)))
 
   number-is : (x b : ℕ) (X : Class) → classOf x87 x ≡ X
       → runReport l κ n b x y .number ≡ numbered l n X (classOf x87 y) (cond (not (run κ n b (divisorOf (classOf x87 y)) (dividendOf X) .done)) 7 0)
-  unfolding runReport numberOf checks first
+  unfolding runReport first
   number-is x b X e = rw e
 
   module _ (b c x : ℕ) (seven : runReport l κ n b x y .number ≡ 7) where

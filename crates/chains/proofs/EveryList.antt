@@ -6,7 +6,7 @@ use Prim.Native.Nat.{ℕ, _<_}
 use Rattle.digits.proofs.Tests.{not-zero}
 use Rattle.definitions.specs.Class.{Value, finite}
 use Rattle.definitions.specs.Format.{classOf, patternOf, patterns, x87}
-use Rattle.definitions.specs.Numbers.{numberOf, checks, first}
+use Rattle.definitions.specs.Numbers.{first}
 use Rattle.definitions.specs.declared.Kind.{Kind}
 use Rattle.definitions.specs.Division.{Outcome, by, finish}
 use Rattle.definitions.specs.Remainder.{quotientBits, remainderOf, remainder}
@@ -21,7 +21,7 @@ use Rattle.chains.proofs.Answer.{answer-is, State, finite-written, writ
 pub remainder-is : (κ : Kind) (x y : ℕ) (v w : Value) → classOf x87 x ≡ finite v → classOf x87 y ≡ finite w → 0 < w .count
     → let r = finish κ (by (w .count)) v in
     remainder x87 κ x y ≡ record { number = 0; value = patternOf x87 (finite (r .value)); quotient = quotientBits (r .whole) }
-unfolding remainder remainderOf numberOf checks first
+unfolding remainder remainderOf first
 remainder-is κ x y v w ex ey p = rw (ex, ey, not-zero (w .count) p)
 
 -- what an accepted run reports

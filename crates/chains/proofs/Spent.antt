@@ -1,13 +1,14 @@
 -- "Answer 7 comes exactly if nothing is refused and the chain needs more steps than the budget", on patterns. Assumes nothing.
 use mathlib.Core.Path.{_≡_, refl}
 use mathlib.Core.Bool.{Bool, true, false, not, cond, _&&_, _||_}
+use mathlib.Core.List.{_++_}
 use Prim.Native.Nat.{ℕ, _<_, min}
 use native.Mathlib.Omega.{arith}
 use borrow.Author.Tests.{lt-ltb, le-ltb, leb-true, leb-false, not-false, eqb-false}
 use lib.Dec.{leb, ltb, eqb}
 use Rattle.definitions.specs.Class.{Value, Class, unsupported, nan, infinite, finite}
 use Rattle.definitions.specs.Format.{classOf, x87}
-use Rattle.definitions.specs.Numbers.{numberOf, checks, first, accepted, isUnsupported, isNan, isInfinite, isZero}
+use Rattle.definitions.specs.Numbers.{first, accepted, dividing, isUnsupported, isNan, isInfinite, isZero}
 use Rattle.definitions.specs.declared.Kind.{Kind}
 use Rattle.definitions.specs.Division.{Outcome, Divisor, unbounded, by, dividendOf, divisorOf}
 use Rattle.definitions.specs.Steps.{run, needed}
@@ -16,7 +17,7 @@ use Rattle.chains.proofs.Run.{run-steps, run-done, unbounded-steps, unb
 
 -- the number of a call whose reply is not looked at: 0 where nothing is refused
 abbrev pub refusal : Lent → ℕ → Class → Class → ℕ
-refusal l n a b = numberOf (calling l n a b false false)
+refusal l n a b = first (calling l n ++ dividing a b)
 
 -- A number that depends on the reply's k: it is a refusal whatever the reply, or nothing is refused, so that the size is right (i) and the
 -- divisor not zero (z), and it is k.
@@ -93,7 +94,7 @@ module _ (l : Lent) (κ : Kind) (n b x y : ℕ) where
   pub run-number : let X = classOf x87 x in
       let Y = classOf x87 y in
       eqb (runReport l κ n b x y .number) 7 ≡ eqb (refusal l n X Y) 0 && ltb b (neededBy κ n (divisorOf Y) (dividendOf X))
-  unfolding runReport numberOf checks first
+  unfolding runReport first
   run-number =
       let X = classOf x87 x in
       let Y = classOf x87 y in
@@ -103,7 +104,7 @@ module _ (l : Lent) (κ : Kind) (n b x y : ℕ) where
   pub run-report-steps : let X = classOf x87 x in
       let Y = classOf x87 y in
       runReport l κ n b x y .steps ≡ cond (eqb (refusal l n X Y) 0) (min b (neededBy κ n (divisorOf Y) (dividendOf X))) 0
-  unfolding runReport numberOf checks first
+  unfolding runReport first
   run-report-steps =
       let X = classOf x87 x in
       let Y = classOf x87 y in

@@ -3,19 +3,19 @@ use mathlib.Core.Path.{_≡_, refl}
 use lib.Ieee.{size}
 use Rattle.definitions.specs.Class.{gap}
 use Rattle.definitions.specs.Format.{classOf, patternOf, magnitude, houseNan, binary16, binary32, binary64, x87}
-use Rattle.definitions.specs.Numbers.{numberOf}
+use Rattle.definitions.specs.Numbers.{first}
 use Rattle.definitions.specs.Division.{finish}
 use Rattle.definitions.specs.Steps.{step, run}
 use Rattle.definitions.specs.Table.{told, readings, longReadings, allTold, allPrinted}
 
 -- readings 1 to 10
 pub readings-hold : allTold readings ≡ allPrinted readings
-unfolding told readings size gap classOf patternOf magnitude numberOf finish step run
+unfolding told readings size gap classOf patternOf magnitude first finish step run
 readings-hold = refl
 
 -- readings 11 and 12
 pub long-readings-hold : allTold longReadings ≡ allPrinted longReadings
-unfolding told longReadings size gap classOf patternOf magnitude numberOf finish step run
+unfolding told longReadings size gap classOf patternOf magnitude first finish step run
 long-readings-hold = refl
 
 -- "House NaN: 7E00, 7FC00000, 7FF8000000000000, and x87 7FFF with C000000000000000"

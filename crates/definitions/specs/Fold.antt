@@ -1,29 +1,18 @@
 -- Folding of a list of binary64 patterns by one divisor. Definitions only.
 use Prim.Native.Nat.{ℕ, _+_}
-use mathlib.Core.Bool.{Bool, false, not, cond, _&&_, _||_}
+use mathlib.Core.Bool.{Bool, not, cond, _&&_, _||_}
 use mathlib.Core.List.{List, [], _∷_, map}
 use lib.Dec.{eqb}
 use lib.ListN.{length}
 use Rattle.definitions.specs.Class.{Class}
 use Rattle.definitions.specs.Format.{classOf, binary64}
-use Rattle.definitions.specs.Numbers.{Tests, numberOf, isNan, isInfinite, isZero}
+use Rattle.definitions.specs.Numbers.{Check, check, first, isNan, isInfinite, isZero}
 use Rattle.definitions.specs.declared.Kind.{Kind}
 use Rattle.definitions.specs.Remainder.{remainder}
 
 -- "lists of unequal length"; "A NaN divisor is 3 and a zero one 5, for the whole list"
-abbrev pub folding : ℕ → ℕ → ℕ → Class → Tests
-folding xs results quotients y =
-    record {
-      misfit = not (eqb results xs && eqb quotients xs);
-      missized = false;
-      anyUnsupported = false;
-      anyNan = isNan y;
-      infiniteDividend = false;
-      zeroDivisor = isZero y;
-      zeroSplit = false;
-      spent = false;
-      partial = false;
-    }
+abbrev pub folding : ℕ → ℕ → ℕ → Class → List Check
+folding xs results quotients y = check 9 (not (eqb results xs && eqb quotients xs)) ∷ check 3 (isNan y) ∷ check 5 (isZero y) ∷ []
 
 -- "a NaN or infinite dividend gets the house NaN and byte 255"
 abbrev pub bad : ℕ → Bool
@@ -48,9 +37,9 @@ pub record Folded : Type 0 where
   pub marked : ℕ
 
 unfoldable pub foldList : Kind → ℕ → List ℕ → List ℕ → List ℕ → Folded
-unfolding numberOf resultAt byteAt badPlaces
+unfolding first resultAt byteAt badPlaces
 foldList κ y xs results quotients =
-    let n = numberOf (folding (length xs) (length results) (length quotients) (classOf binary64 y)) in
+    let n = first (folding (length xs) (length results) (length quotients) (classOf binary64 y)) in
     record {
       number = n;
       results = cond (eqb n 0) (map (resultAt κ y) xs) results;

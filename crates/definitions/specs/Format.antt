@@ -8,10 +8,12 @@ use lib.IntN.{ℤ, pos, negsuc, _+ℤ_}
 use lib.Ieee.{size}
 use Rattle.digits.specs.Digits.{Digits}
 use Rattle.definitions.specs.Class.{Class, unsupported, nan, infinite, finite}
+use Rattle.definitions.specs.declared.Layout.{Layout}
+use Rattle.definitions.specs.declared.Layout.the-variants.{Hidden, Explicit}
 
--- whether the leading digit of the significand is left out of the pattern or stands in it
-pub data Layout : Type 0 where
-  hidden explicit : Layout
+-- the one number that two words are
+abbrev pub words : ℕ → ℕ → ℕ
+words high low = high * 2 ^ 64 + low
 
 -- "Each format has its own precision, bias and smallest place, and these are named once, with the format." The smallest place is 2 ^ smallest.
 pub record Format : Type 0 where
@@ -21,16 +23,16 @@ pub record Format : Type 0 where
   pub layout : Layout
 
 abbrev pub binary16 : Format
-binary16 = record { precision = 11; bias = 15; smallest = negsuc 23; layout = hidden }
+binary16 = record { precision = 11; bias = 15; smallest = negsuc 23; layout = Hidden }
 
 abbrev pub binary32 : Format
-binary32 = record { precision = 24; bias = 127; smallest = negsuc 148; layout = hidden }
+binary32 = record { precision = 24; bias = 127; smallest = negsuc 148; layout = Hidden }
 
 abbrev pub binary64 : Format
-binary64 = record { precision = 53; bias = 1023; smallest = negsuc 1073; layout = hidden }
+binary64 = record { precision = 53; bias = 1023; smallest = negsuc 1073; layout = Hidden }
 
 abbrev pub x87 : Format
-x87 = record { precision = 64; bias = 16383; smallest = negsuc 16444; layout = explicit }
+x87 = record { precision = 64; bias = 16383; smallest = negsuc 16444; layout = Explicit }
 
 -- the largest exponent field, of infinities and NaNs
 abbrev pub topField : Format → ℕ
@@ -41,8 +43,13 @@ abbrev pub leading : Format → ℕ
 leading f = 2 ^ (f .precision - 1)
 
 abbrev pub stored : Layout → ℕ → ℕ
-stored hidden p = 2 ^ (p - 1)
-stored explicit p = 2 ^ p
+stored Hidden p = 2 ^ (p - 1)
+stored Explicit p = 2 ^ p
+
+-- what a pattern leaves out of a significand that has its leading digit, of the weight h
+abbrev pub hiddenPart : Layout → ℕ → ℕ
+hiddenPart Hidden h = h
+hiddenPart Explicit h = 0
 
 abbrev pub fieldWeight : Format → ℕ
 fieldWeight f = stored (f .layout) (f .precision)
@@ -72,8 +79,8 @@ extendedClass f n e s =
     unsupported)
 
 abbrev pub fieldsClass : Layout → Format → Bool → ℕ → ℕ → Class
-fieldsClass hidden f n e s = interchangeClass f n e s
-fieldsClass explicit f n e s = extendedClass f n e s
+fieldsClass Hidden f n e s = interchangeClass f n e s
+fieldsClass Explicit f n e s = extendedClass f n e s
 
 -- what a pattern stands for
 unfoldable pub classOf : Format → ℕ → Class
@@ -81,8 +88,8 @@ classOf f b = fieldsClass (f .layout) f (leb (signWeight f) b) (b / fieldWeight 
 
 -- the exponent field and the stored significand together, of a significand s that has dropped e low digits: a leading digit adds one to the field
 abbrev pub body : Format → Layout → ℕ → ℕ → ℕ
-body f hidden e s = e * leading f + s
-body f explicit e s = (e + cond (leb (leading f) s) 1 0) * fieldWeight f + s
+body f Hidden e s = e * leading f + s
+body f Explicit e s = (e + cond (leb (leading f) s) 1 0) * fieldWeight f + s
 
 -- the pattern of a count: its leading digits, as many as the precision, and how many lie below them
 unfoldable pub magnitude : Format → ℕ → ℕ
@@ -93,15 +100,15 @@ withSign f n b = cond n (signWeight f) 0 + b
 
 -- "House NaN: 7E00, 7FC00000, 7FF8000000000000, and x87 7FFF with C000000000000000"
 abbrev pub quiet : Layout → ℕ → ℕ
-quiet hidden h = h / 2
-quiet explicit h = h + h / 2
+quiet Hidden h = h / 2
+quiet Explicit h = h + h / 2
 
 abbrev pub houseNan : Format → ℕ
 houseNan f = topField f * fieldWeight f + quiet (f .layout) (leading f)
 
 abbrev pub infinity : Layout → ℕ → ℕ
-infinity hidden h = 0
-infinity explicit h = h
+infinity Hidden h = 0
+infinity Explicit h = h
 
 abbrev pub infinityBody : Format → ℕ
 infinityBody f = topField f * fieldWeight f + infinity (f .layout) (leading f)
@@ -129,6 +136,13 @@ largestGap f = reach f - 1
 pub record Representable (f : Format) (n : ℕ) : Type 0 where
   pub digits : Digits (f .precision) n
   pub range : size n ≤ reach f
+
+-- a class whose count, if it has one, the format holds
+abbrev pub Holds : Format → Class → Type 0
+Holds f unsupported = Unit {0}
+Holds f nan = Unit {0}
+Holds f (infinite n) = Unit {0}
+Holds f (finite v) = Representable f (v .count)
 
 -- What the laws ask of a format. Each of the four is one: the smallest place is where the field 1 puts the last digit of a significand.
 pub record Regular (f : Format) : Type 0 where

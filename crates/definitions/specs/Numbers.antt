@@ -1,51 +1,32 @@
--- The numbers 0 to 9 and the order in which they are looked for. Definitions only.
+-- The numbers 0 to 9, and the checks that give them. Definitions only.
 use Prim.Native.Nat.{ℕ}
 use mathlib.Core.Bool.{Bool, true, false, cond, _||_}
 use mathlib.Core.List.{List, [], _∷_}
 use lib.Dec.{eqb}
 use Rattle.definitions.specs.Class.{Class, unsupported, nan, infinite, finite}
 
--- "The number on the slip", one test a row; an operation for which a row means nothing has it false
-pub record Tests : Type 0 where
-  pub misfit : Bool  -- lists of unequal length, or an answer block not 16 bytes
-  pub missized : Bool  -- size outside 32 to 63
-  pub anyUnsupported : Bool  -- an x87 operand is unsupported
-  pub anyNan : Bool  -- an operand is NaN
-  pub infiniteDividend : Bool  -- dividend infinite, or splitting an infinity
-  pub zeroDivisor : Bool  -- divisor zero
-  pub zeroSplit : Bool  -- splitting a zero
-  pub spent : Bool  -- budget spent
-  pub partial : Bool  -- step was partial
-
+-- "The number on the slip" and when it is given. Every operation lists its own checks.
 pub record Check : Type 0 where
   pub number : ℕ
   pub test : Bool
 
-abbrev check : ℕ → Bool → Check
+abbrev pub check : ℕ → Bool → Check
 check n t = record { number = n; test = t }
-
--- "Order of checks: 9, 6, 2, 3, 4, 5, 8, then 7", and last a step that was partial
-unfoldable pub checks : Tests → List Check
-checks t =
-    check 9 (t .misfit)
-    ∷ check 6 (t .missized)
-    ∷ check 2 (t .anyUnsupported)
-    ∷ check 3 (t .anyNan)
-    ∷ check 4 (t .infiniteDividend)
-    ∷ check 5 (t .zeroDivisor)
-    ∷ check 8 (t .zeroSplit)
-    ∷ check 7 (t .spent)
-    ∷ check 1 (t .partial)
-    ∷ []
 
 -- "where several apply, the first in a fixed order"; 0 where none does
 unfoldable pub first : List Check → ℕ
 first [] = 0
 first (c ∷ cs) = cond (c .test) (c .number) (first cs)
 
-unfoldable pub numberOf : Tests → ℕ
-unfolding checks first
-numberOf t = first (checks t)
+-- "Order of checks: 9, 6, 2, 3, 4, 5, 8, then 7", and last a step that was partial
+abbrev pub fixedOrder : List ℕ
+fixedOrder = 9 ∷ 6 ∷ 2 ∷ 3 ∷ 4 ∷ 5 ∷ 8 ∷ 7 ∷ 1 ∷ []
+
+-- whether the numbers of a list of checks stand in an order, none of them twice
+abbrev pub follows : List Check → List ℕ → Bool
+follows [] ns = true
+follows (c ∷ cs) [] = false
+follows (c ∷ cs) (n ∷ ns) = cond (eqb (c .number) n) (follows cs ns) (follows (c ∷ cs) ns)
 
 -- "0, 1 and 7 are answers, the rest refusals."
 abbrev pub accepted : ℕ → Bool
@@ -76,17 +57,6 @@ isZero nan = false
 isZero (infinite n) = false
 isZero (finite v) = eqb (v .count) 0
 
--- the tests of an operation that divides x by y and asks for nothing else
-abbrev pub dividing : Class → Class → Tests
-dividing x y =
-    record {
-      misfit = false;
-      missized = false;
-      anyUnsupported = isUnsupported x || isUnsupported y;
-      anyNan = isNan x || isNan y;
-      infiniteDividend = isInfinite x;
-      zeroDivisor = isZero y;
-      zeroSplit = false;
-      spent = false;
-      partial = false;
-    }
+-- the checks of an operation that divides x by y: "an x87 operand is unsupported", "an operand is NaN", "dividend infinite", "divisor zero"
+abbrev pub dividing : Class → Class → List Check
+dividing x y = check 2 (isUnsupported x || isUnsupported y) ∷ check 3 (isNan x || isNan y) ∷ check 4 (isInfinite x) ∷ check 5 (isZero y) ∷ []

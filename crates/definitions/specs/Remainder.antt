@@ -3,7 +3,7 @@ use Prim.Native.Nat.{ℕ, _%_}
 use mathlib.Core.Bool.{cond}
 use Rattle.definitions.specs.Class.{Class, finite}
 use Rattle.definitions.specs.Format.{Format, classOf, patternOf, houseNan}
-use Rattle.definitions.specs.Numbers.{numberOf, accepted, dividing}
+use Rattle.definitions.specs.Numbers.{first, accepted, dividing}
 use Rattle.definitions.specs.declared.Kind.{Kind}
 use Rattle.definitions.specs.Division.{Outcome, finish, dividendOf, divisorOf}
 
@@ -33,8 +33,8 @@ remainderReport f n r =
     }
 
 unfoldable pub remainderOf : Format → Kind → Class → Class → Remainder
-unfolding numberOf
-remainderOf f κ x y = remainderReport f (numberOf (dividing x y)) (finish κ (divisorOf y) (dividendOf x))
+unfolding first
+remainderOf f κ x y = remainderReport f (first (dividing x y)) (finish κ (divisorOf y) (dividendOf x))
 
 -- the remainder of the pattern x by the pattern y
 unfoldable pub remainder : Format → Kind → ℕ → ℕ → Remainder

@@ -1,10 +1,11 @@
 -- What a step and a run on x87 patterns report. Definitions only.
 use Prim.Native.Nat.{ℕ}
-use mathlib.Core.Bool.{Bool, true, false, not, cond, _&&_}
+use mathlib.Core.Bool.{Bool, true, not, cond, _&&_}
+use mathlib.Core.List.{List, [], _∷_, _++_}
 use lib.Dec.{leb, eqb}
 use Rattle.definitions.specs.Class.{Class, finite}
 use Rattle.definitions.specs.Format.{classOf, patternOf, x87}
-use Rattle.definitions.specs.Numbers.{Tests, numberOf, accepted, dividing}
+use Rattle.definitions.specs.Numbers.{Check, check, first, accepted, dividing}
 use Rattle.definitions.specs.declared.Kind.{Kind}
 use Rattle.definitions.specs.Division.{Outcome, dividendOf, divisorOf}
 use Rattle.definitions.specs.Remainder.{quotientBits, refusedValue}
@@ -33,21 +34,16 @@ fitting (block l) = eqb l blockLength
 abbrev pub sized : ℕ → Bool
 sized n = leb 32 n && leb n 63
 
--- the tests of a call of size n that lends l, on operands x and y; `spent` and `partial` say how its reply ended
-abbrev pub calling : Lent → ℕ → Class → Class → Bool → Bool → Tests
-calling l n x y spent partial =
-    let t = dividing x y in
-    record {
-      misfit = not (fitting l);
-      missized = not (sized n);
-      anyUnsupported = t .anyUnsupported;
-      anyNan = t .anyNan;
-      infiniteDividend = t .infiniteDividend;
-      zeroDivisor = t .zeroDivisor;
-      zeroSplit = false;
-      spent = spent;
-      partial = partial;
-    }
+-- what a call of size n that lends l looks at before its operands
+abbrev pub calling : Lent → ℕ → List Check
+calling l n = check 9 (not (fitting l)) ∷ check 6 (not (sized n)) ∷ []
+
+-- the checks of a step, and of a run, on operands x and y; the last says how it ended
+abbrev pub stepping : Lent → ℕ → Class → Class → Bool → List Check
+stepping l n x y partial = calling l n ++ (dividing x y ++ (check 1 partial ∷ []))
+
+abbrev pub running : Lent → ℕ → Class → Class → Bool → List Check
+running l n x y spent = calling l n ++ (dividing x y ++ (check 7 spent ∷ []))
 
 -- "Under 2 to 6 and 8, quotient bits, steps and exponent are 0"
 abbrev pub reportOf : ℕ → Outcome → Report ℕ
@@ -67,18 +63,18 @@ runReply κ n b x y = run κ n b (divisorOf y) (dividendOf x)
 
 -- a step of size n on the patterns x and y
 unfoldable pub stepReport : Lent → Kind → ℕ → ℕ → ℕ → Report ℕ
-unfolding numberOf
+unfolding first
 stepReport l κ n x y =
     let a = classOf x87 x in
     let b = classOf x87 y in
     let r = stepReply κ n a b in
-    reportOf (numberOf (calling l n a b false (not (r .done)))) r
+    reportOf (first (stepping l n a b (not (r .done)))) r
 
 -- a run of size n with a budget. "Answer 7 comes exactly if nothing is refused and the chain needs more steps than the budget."
 unfoldable pub runReport : Lent → Kind → ℕ → ℕ → ℕ → ℕ → Report ℕ
-unfolding numberOf
+unfolding first
 runReport l κ n budget x y =
     let a = classOf x87 x in
     let b = classOf x87 y in
     let r = runReply κ n budget a b in
-    reportOf (numberOf (calling l n a b (not (r .done)) false)) r
+    reportOf (first (running l n a b (not (r .done)))) r

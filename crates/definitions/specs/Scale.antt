@@ -1,13 +1,14 @@
 -- Scaling by a power of two, and splitting. Definitions only.
 use Prim.Native.Nat.{ℕ, suc, _-_, _*_, _/_, _^_}
-use mathlib.Core.Bool.{Bool, false, cond}
+use mathlib.Core.Bool.{Bool, cond}
+use mathlib.Core.List.{List, [], _∷_}
 use lib.Dec.{eqb}
 use lib.IntN.{ℤ, pos, negsuc, natAbs}
 use lib.Signed.{ltZ}
 use lib.Ieee.{size}
 use Rattle.definitions.specs.Class.{Value, Class, unsupported, nan, infinite, finite}
 use Rattle.definitions.specs.Format.{Format, classOf, patternOf, exponentOf}
-use Rattle.definitions.specs.Numbers.{Tests, numberOf, accepted, isUnsupported, isNan, isInfinite, isZero}
+use Rattle.definitions.specs.Numbers.{Check, check, first, accepted, isUnsupported, isNan, isInfinite, isZero}
 use Rattle.definitions.specs.Division.{dividendOf}
 use Rattle.definitions.specs.Remainder.{refusedValue}
 use Rattle.definitions.specs.declared.Rounding.{Rounding}
@@ -39,66 +40,53 @@ scaleClass f (infinite s) k = record { class = infinite s; says = Exact }
 scaleClass f (finite v) k = let a = scaleValue f v k in cond (eqb (v .count) 0) (record { class = finite v; says = Exact }) a
 
 -- "Scaling knows only 0, 2 and 3."
-abbrev pub scaling : Class → Tests
-scaling x =
-    record {
-      misfit = false;
-      missized = false;
-      anyUnsupported = isUnsupported x;
-      anyNan = isNan x;
-      infiniteDividend = false;
-      zeroDivisor = false;
-      zeroSplit = false;
-      spent = false;
-      partial = false;
-    }
+abbrev pub scaling : Class → List Check
+scaling x = check 2 (isUnsupported x) ∷ check 3 (isNan x) ∷ []
 
 pub record ScaleReport : Type 0 where
   pub number : ℕ
   pub value : ℕ
   pub says : Rounding
 
--- the pattern x scaled by 2 ^ k; "scaling says exact" of a refusal
-unfoldable pub scaleReport : Format → ℕ → ℤ → ScaleReport
-unfolding numberOf scaleClass
-scaleReport f x k =
-    let a = classOf f x in
-    let n = numberOf (scaling a) in
-    let s = scaleClass f a k in
+-- what x stands for, scaled by 2 ^ k; "scaling says exact" of a refusal
+unfoldable pub scaleOf : Format → Class → ℤ → ScaleReport
+unfolding first scaleClass
+scaleOf f x k =
+    let n = first (scaling x) in
+    let s = scaleClass f x k in
     record { number = n; value = cond (accepted n) (patternOf f (s .class)) (refusedValue f); says = cond (accepted n) (s .says) Exact }
+
+-- the pattern x scaled by 2 ^ k
+unfoldable pub scaleReport : Format → ℕ → ℤ → ScaleReport
+unfolding scaleOf
+scaleReport f x k = scaleOf f (classOf f x) k
 
 -- "a significand with magnitude from 1 to below 2": the count of v with its leading one moved to the place of one, 2 ^ 0
 unfoldable pub significandOf : Format → Value → Value
 significandOf f v = record { negative = v .negative; count = v .count * 2 ^ natAbs (f .smallest) / 2 ^ (size (v .count) - 1) }
 
-abbrev pub splitting : Class → Tests
-splitting x =
-    record {
-      misfit = false;
-      missized = false;
-      anyUnsupported = isUnsupported x;
-      anyNan = isNan x;
-      infiniteDividend = isInfinite x;
-      zeroDivisor = false;
-      zeroSplit = isZero x;
-      spent = false;
-      partial = false;
-    }
+-- "splitting an infinity", "splitting a zero"
+abbrev pub splitting : Class → List Check
+splitting x = check 2 (isUnsupported x) ∷ check 3 (isNan x) ∷ check 4 (isInfinite x) ∷ check 8 (isZero x) ∷ []
 
 pub record SplitReport : Type 0 where
   pub number : ℕ
   pub significand : ℕ
   pub exponent : ℤ
 
--- the pattern x split. "Under 2 to 6 and 8, quotient bits, steps and exponent are 0"
-unfoldable pub splitReport : Format → ℕ → SplitReport
-unfolding numberOf significandOf
-splitReport f x =
-    let a = classOf f x in
-    let n = numberOf (splitting a) in
-    let v = dividendOf a in
+-- what x stands for, split. "Under 2 to 6 and 8, quotient bits, steps and exponent are 0"
+unfoldable pub splitOf : Format → Class → SplitReport
+unfolding first significandOf
+splitOf f x =
+    let n = first (splitting x) in
+    let v = dividendOf x in
     record {
       number = n;
       significand = cond (accepted n) (patternOf f (finite (significandOf f v))) (refusedValue f);
       exponent = cond (accepted n) (exponentOf f (v .count)) (pos 0);
     }
+
+-- the pattern x split
+unfoldable pub splitReport : Format → ℕ → SplitReport
+unfolding splitOf
+splitReport f x = splitOf f (classOf f x)

@@ -1,10 +1,23 @@
-// The words of document 01 that the code and the definitions share. There is no code here: specs/ is what a reader has to believe,
-// and specs/Answers.antt gives document 01's number and values for each case of each answer below.
+// The words that the code and the definitions share. There is no code here: specs/ is what a reader has to believe, and
+// specs/Answers.antt gives the number and the values of each case of each answer below.
 
 // Which whole number the quotient is cut to.
 pub enum Kind {
     Truncated,
     Nearest,
+}
+
+// Whether the leading digit of a significand is left out of its pattern or stands in it.
+pub enum Layout {
+    Hidden,
+    Explicit,
+}
+
+// A bit pattern of any format, high × 2^64 + low. binary16, binary32 and binary64 fill the low word alone. The high word of an x87
+// pattern is its sign and exponent word, and the low one its significand.
+pub struct Pattern {
+    pub high: u64,
+    pub low: u64,
 }
 
 // How a scaled value compares with the exact one, in magnitude.
@@ -25,39 +38,21 @@ pub enum Refusal {
     ZeroSplit,
 }
 
-// An x87 operand: its significand, with the leading digit in it, and its sign and exponent word.
-pub struct Extended {
-    pub significand: u64,
-    pub word: u16,
-}
-
-// The remainder of two interchange patterns, and of two x87 operands.
+// The remainder of two patterns.
 pub enum RemainderAnswer {
-    Finished { value: u64, quotient: u32 },
+    Finished { value: Pattern, quotient: u32 },
     Refused(Refusal),
 }
 
-pub enum RemainderAnswer80 {
-    Finished { value: Extended, quotient: u32 },
-    Refused(Refusal),
-}
-
-// One x87 step.
-pub enum StepAnswer {
-    Finished { value: Extended, quotient: u32 },
-    Partial { value: Extended, quotient: u32 },
-    Refused(Refusal),
-}
-
-// An x87 run.
-pub enum RunAnswer {
+// A step, or a run of steps. An unfinished step was partial, and an unfinished run has spent its budget.
+pub enum StepsAnswer {
     Finished {
-        value: Extended,
+        value: Pattern,
         quotient: u32,
         steps: u32,
     },
-    Spent {
-        value: Extended,
+    Unfinished {
+        value: Pattern,
         quotient: u32,
         steps: u32,
     },
@@ -66,25 +61,12 @@ pub enum RunAnswer {
 
 // A value scaled by a power of two.
 pub enum ScaleAnswer {
-    Scaled { value: u64, says: Rounding },
-    Refused(Refusal),
-}
-
-pub enum ScaleAnswer80 {
-    Scaled { value: Extended, says: Rounding },
+    Scaled { value: Pattern, says: Rounding },
     Refused(Refusal),
 }
 
 // A value split into a significand from 1 to below 2 and an exponent.
 pub enum SplitAnswer {
-    Parts { significand: u64, exponent: i32 },
-    Refused(Refusal),
-}
-
-pub enum SplitAnswer80 {
-    Parts {
-        significand: Extended,
-        exponent: i32,
-    },
+    Parts { significand: Pattern, exponent: i32 },
     Refused(Refusal),
 }

@@ -7,7 +7,7 @@ use lib.Dec.{eqb}
 use lib.ListN.{length}
 use borrow.Author.Tests.{ne-eqb}
 use Rattle.definitions.specs.Format.{classOf, binary64}
-use Rattle.definitions.specs.Numbers.{numberOf, checks, first, accepted, isNan, isZero}
+use Rattle.definitions.specs.Numbers.{first, accepted, isNan, isZero}
 use Rattle.definitions.specs.Fold.{Folded, foldList}
 use Rattle.definitions.specs.declared.Kind.{Kind}
 use Rattle.interface.specs.Interface.{after}
@@ -20,7 +20,7 @@ refusals false false true = refl
 refusals false false false = refl
 
 pub fold-number : (κ : Kind) (y : ℕ) (xs results quotients : List ℕ) → let n = foldList κ y xs results quotients .number in accepted n ≡ eqb n 0
-unfolding foldList numberOf checks first
+unfolding foldList first
 fold-number κ y xs results quotients =
     refusals (not (eqb (length results) (length xs) && eqb (length quotients) (length xs))) (isNan (classOf binary64 y)) (isZero (classOf binary64 y))
 

@@ -6,7 +6,7 @@ use Prim.Native.Nat.{ℕ, _<_}
 use native.Mathlib.Omega.{arith}
 use borrow.Author.Tests.{ne-eqb}
 use lib.Dec.{lit<}
-use Rattle.definitions.specs.Numbers.{numberOf, checks, first, accepted}
+use Rattle.definitions.specs.Numbers.{first, accepted}
 use Rattle.definitions.specs.Format.{classOf, x87}
 use Rattle.definitions.specs.Division.{dividendOf, divisorOf}
 use Rattle.definitions.specs.Steps.{step, run}
@@ -35,19 +35,19 @@ module _ (T R : Report ℕ) (told : T ≡ R) (lent : List ℕ) where
 
 module _ (κ : Kind) (n x y l : ℕ) where
   pub step-fitting : l ≡ 16 → stepReport nothing κ n x y ≡ stepReport (block l) κ n x y
-  unfolding stepReport numberOf checks first
+  unfolding stepReport first
   step-fitting e = rw e
 
   pub step-misfit : (l ≡ 16 → ⊥) → 9 ≡ stepReport (block l) κ n x y .number
-  unfolding stepReport numberOf checks first
+  unfolding stepReport first
   step-misfit h = rw (ne-eqb l 16 h)
 
   pub run-fitting : (b : ℕ) → l ≡ 16 → runReport nothing κ n b x y ≡ runReport (block l) κ n b x y
-  unfolding runReport numberOf checks first
+  unfolding runReport first
   run-fitting b e = rw e
 
   pub run-misfit : (b : ℕ) → (l ≡ 16 → ⊥) → 9 ≡ runReport (block l) κ n b x y .number
-  unfolding runReport numberOf checks first
+  unfolding runReport first
   run-misfit b h = rw (ne-eqb l 16 h)
 
 pub misfit : (R : Report ℕ) (lent : List ℕ) → 9 ≡ R .number → (9 ≡ R .number) × (lent ≡ blockAfter lent R)

@@ -21,7 +21,8 @@ use lib.Ieee.Bits.{ofBits-toBits, ofBits-fits}
 use Rattle.digits.proofs.Tests.{clash, not-zero}
 use Rattle.digits.proofs.Common.{mod-scale}
 use Rattle.definitions.specs.Class.{Value, Class, unsupported, nan, infinite, finite}
-use Rattle.definitions.specs.Format.{Format, Representable, Regular, hidden, binary32, binary64, interchangeClass, classOf, patternOf, magnitude}
+use Rattle.definitions.specs.Format.{Format, Representable, Regular, binary32, binary64, interchangeClass, classOf, patternOf, magnitude}
+use Rattle.definitions.specs.declared.Layout.the-variants.{Hidden}
 use Rattle.definitions.specs.declared.Kind.the-variants.{Truncated}
 use Rattle.definitions.specs.Division.{finishBy, finish}
 use Rattle.definitions.specs.Remainder.{remainderOf, remainder}
@@ -32,7 +33,7 @@ use Rattle.laws.proofs.Division.{finish-held}
 
 -- the toolchain's two formats, as the definitions have them
 abbrev pub ours : Ieee.Format → Format
-ours g = record { precision = prec g; bias = emax g; smallest = negsuc (low g - 1); layout = hidden }
+ours g = record { precision = prec g; bias = emax g; smallest = negsuc (low g - 1); layout = Hidden }
 
 pub ours32 : ours Ieee.binary32 ≡ binary32
 ours32 = refl

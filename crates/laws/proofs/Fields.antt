@@ -9,9 +9,9 @@ use lib.Arith.{lt-of-le-ne}
 use lib.Pow.{pow-mono}
 use Rattle.digits.proofs.Tests.{clash}
 use Rattle.definitions.specs.Class.{Value, finite, infinite, nan}
-use Rattle.definitions.specs.Format.{Format, Regular, topField, leading, fieldWeight, fieldsClass, body, quiet, infinity}
+use Rattle.definitions.specs.Format.{Format, Regular, topField, leading, fieldWeight, hiddenPart, fieldsClass, body, quiet, infinity}
 use Rattle.laws.proofs.Representable.{Placed, leading-twice}
-use Rattle.laws.proofs.Layouts.{hiddenPart, number, weight, hidden-le, hidden-infinity, quiet-is, low-read, high-read, top-read, low-body, high-body, finite-low, finite-high}
+use Rattle.laws.proofs.Layouts.{number, weight, hidden-le, hidden-infinity, quiet-is, low-read, high-read, top-read, low-body, high-body, finite-low, finite-high}
 
 -- The field e and the stored significand t, with the significand s and the number j of dropped digits that they stand for:
 -- field 0 has no leading digit and drops none, and each other one has it.

@@ -9,13 +9,10 @@ use lib.Dec.{leb, eqb, eqb·suc-zero}
 use lib.Pow.{pow-pos}
 use Rattle.digits.proofs.Tests.{clash}
 use Rattle.definitions.specs.Class.{Value, Class, finite, infinite, nan}
-use Rattle.definitions.specs.Format.{Format, Layout, hidden, explicit, Regular, topField, leading, stored, fieldWeight, fieldsClass, body, quiet, infinity}
+use Rattle.definitions.specs.Format.{Format, Regular, topField, leading, stored, fieldWeight, hiddenPart, fieldsClass, body, quiet, infinity}
+use Rattle.definitions.specs.declared.Layout.{Layout}
+use Rattle.definitions.specs.declared.Layout.the-variants.{Hidden, Explicit}
 use Rattle.laws.proofs.Representable.{leading-twice}
-
--- what a field of one or more adds to the stored significand
-abbrev pub hiddenPart : Layout → ℕ → ℕ
-hiddenPart hidden h = h
-hiddenPart explicit h = 0
 
 -- a sign and the significand s that has dropped j digits, as a class
 abbrev pub number : Bool → ℕ → ℕ → Class
@@ -23,67 +20,67 @@ number n j s = finite (record { negative = n; count = s * 2 ^ j })
 
 -- ---- weights
 pub weight-pos : (l : Layout) (p : ℕ) → 0 < stored l p
-weight-pos hidden p = pow-pos (p - 1)
-weight-pos explicit p = pow-pos p
+weight-pos Hidden p = pow-pos (p - 1)
+weight-pos Explicit p = pow-pos p
 
 -- what the pattern leaves out and what it stores make one significand
 pub weight : (l : Layout) (f : Format) → Regular f → hiddenPart l (leading f) + stored l (f .precision) ≡ leading f + leading f
-weight hidden f r = refl
-weight explicit f r = zero-add (2 ^ f .precision) ∙ leading-twice f r
+weight Hidden f r = refl
+weight Explicit f r = zero-add (2 ^ f .precision) ∙ leading-twice f r
 
 pub hidden-le : (l : Layout) (h : ℕ) → hiddenPart l h ≤ h
-hidden-le hidden h = le-refl h
-hidden-le explicit h = omega arith
+hidden-le Hidden h = le-refl h
+hidden-le Explicit h = omega arith
 
 pub hidden-infinity : (l : Layout) (h : ℕ) → hiddenPart l h + infinity l h ≡ h
-hidden-infinity hidden h = omega arith
-hidden-infinity explicit h = omega arith
+hidden-infinity Hidden h = omega arith
+hidden-infinity Explicit h = omega arith
 
 pub quiet-is : (l : Layout) (h : ℕ) → quiet l h ≡ infinity l h + h / 2
-quiet-is hidden h = omega arith
-quiet-is explicit h = refl
+quiet-is Hidden h = omega arith
+quiet-is Explicit h = refl
 
 suc-sub-one : (j : ℕ) → suc j - 1 ≡ j
 suc-sub-one j = omega arith
 
 -- ---- field 0, each field between, and the largest
 pub low-read : (l : Layout) (f : Format) (n : Bool) (t : ℕ) → t < leading f → fieldsClass l f n 0 t ≡ number n 0 t
-low-read hidden f n t h = rw (ne-eqb 0 (topField f) (omega arith), mul-one t)
-low-read explicit f n t h = rw (lt-leb (leading f) t h, mul-one t)
+low-read Hidden f n t h = rw (ne-eqb 0 (topField f) (omega arith), mul-one t)
+low-read Explicit f n t h = rw (lt-leb (leading f) t h, mul-one t)
 
 pub high-read : (l : Layout) (f : Format) (n : Bool) (j t : ℕ) → suc j < topField f → leading f ≤ hiddenPart l (leading f) + t
     → fieldsClass l f n (suc j) t ≡ number n j (hiddenPart l (leading f) + t)
-high-read hidden f n j t h g = rw (ne-eqb (suc j) (topField f) (omega arith), eqb·suc-zero j, suc-sub-one j)
-high-read explicit f n j t h g =
+high-read Hidden f n j t h g = rw (ne-eqb (suc j) (topField f) (omega arith), eqb·suc-zero j, suc-sub-one j)
+high-read Explicit f n j t h g =
     rw (zero-add t, eqb·suc-zero j, le-leb (leading f) t (omega arith), ne-eqb (suc j) (topField f) (omega arith), suc-sub-one j)
 
 pub top-read : (l : Layout) (f : Format) (n : Bool) (t : ℕ) → leading f ≤ hiddenPart l (leading f) + t
     → fieldsClass l f n (topField f) t ≡ cond (eqb t (infinity l (leading f))) (infinite n) nan
-top-read hidden f n t g = rw (eq-eqb (topField f) (topField f) refl)
-top-read explicit f n t g = rw (ne-eqb (topField f) 0 (omega arith), le-leb (leading f) t (omega arith), eq-eqb (topField f) (topField f) refl)
+top-read Hidden f n t g = rw (eq-eqb (topField f) (topField f) refl)
+top-read Explicit f n t g = rw (ne-eqb (topField f) 0 (omega arith), le-leb (leading f) t (omega arith), eq-eqb (topField f) (topField f) refl)
 
 -- ---- how a significand that has dropped j digits is written
 pub low-body : (l : Layout) (f : Format) (t : ℕ) → t < leading f → body f l 0 t ≡ t
-low-body hidden f t h = omega arith
-low-body explicit f t h = rw (lt-leb (leading f) t h) (omega arith)
+low-body Hidden f t h = omega arith
+low-body Explicit f t h = rw (lt-leb (leading f) t h) (omega arith)
 
 pub high-body : (l : Layout) (f : Format) (j t : ℕ) → f .layout ≡ l → leading f ≤ hiddenPart l (leading f) + t
     → body f l j (hiddenPart l (leading f) + t) ≡ suc j * fieldWeight f + t
-high-body hidden f j t e g = rw e (omega arith)
-high-body explicit f j t e g = rw (zero-add t, le-leb (leading f) t (omega arith)) (omega arith)
+high-body Hidden f j t e g = rw e (omega arith)
+high-body Explicit f j t e g = rw (zero-add t, le-leb (leading f) t (omega arith)) (omega arith)
 
 -- ---- what a finite pattern's significand is bounded by
 pub finite-low : (l : Layout) (f : Format) (n : Bool) (t : ℕ) (v : Value) → fieldsClass l f n 0 t ≡ finite v → t < stored l (f .precision) → t < leading f
-finite-low hidden f n t v e h = h
-finite-low explicit f n t v e h = go (leb (leading f) t) refl
+finite-low Hidden f n t v e h = h
+finite-low Explicit f n t v e h = go (leb (leading f) t) refl
   where
     go : (b : Bool) → leb (leading f) t ≡ b → t < leading f
     go true q = let d = rw q at e in clash (cc)
     go false q = leb-false (leading f) t q
 
 pub finite-high : (l : Layout) (f : Format) (n : Bool) (j t : ℕ) (v : Value) → fieldsClass l f n (suc j) t ≡ finite v → leading f ≤ hiddenPart l (leading f) + t
-finite-high hidden f n j t v e = le-add-right (leading f) t
-finite-high explicit f n j t v e = go (leb (leading f) t) refl
+finite-high Hidden f n j t v e = le-add-right (leading f) t
+finite-high Explicit f n j t v e = go (leb (leading f) t) refl
   where
     go : (b : Bool) → leb (leading f) t ≡ b → leading f ≤ 0 + t
     go true q = omega (arith, leb-true (leading f) t q)
@@ -92,13 +89,13 @@ finite-high explicit f n j t v e = go (leb (leading f) t) refl
 -- ---- which patterns are infinities
 pub infinite-top : (l : Layout) (f : Format) (m n : Bool) (e t : ℕ) → fieldsClass l f m e t ≡ infinite n
     → (e ≡ topField f) × (t ≡ infinity l (leading f)) × (m ≡ n)
-infinite-top hidden f m n e t c = go (eqb e (topField f)) (eqb t 0) refl refl
+infinite-top Hidden f m n e t c = go (eqb e (topField f)) (eqb t 0) refl refl
   where
     go : (a b : Bool) → eqb e (topField f) ≡ a → eqb t 0 ≡ b → (e ≡ topField f) × (t ≡ 0) × (m ≡ n)
     go true true p q = let d = rw (p, q) at c in (eqb-true e (topField f) p, eqb-true t 0 q, (cc))
     go true false p q = let d = rw (p, q) at c in clash (cc)
     go false b p q = let d = rw p at c in clash (cc)
-infinite-top explicit f m n e t c = go (eqb e 0) (leb (leading f) t) (eqb e (topField f)) (eqb t (leading f)) refl refl refl refl
+infinite-top Explicit f m n e t c = go (eqb e 0) (leb (leading f) t) (eqb e (topField f)) (eqb t (leading f)) refl refl refl refl
   where
     go : (z j a b : Bool) → eqb e 0 ≡ z → leb (leading f) t ≡ j → eqb e (topField f) ≡ a → eqb t (leading f) ≡ b
         → (e ≡ topField f) × (t ≡ leading f) × (m ≡ n)

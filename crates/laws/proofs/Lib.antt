@@ -12,3 +12,4 @@ pub mod Round
 pub mod Scaling
 pub mod Splitting
 pub mod Small
+pub mod Order

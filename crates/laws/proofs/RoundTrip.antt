@@ -1,13 +1,13 @@
 -- What a format holds is written and read back, and each finite pattern is the one that its value is written as. Assumes nothing.
-use mathlib.Core.Path.{_≡_, sym, ap, _∙_, subst}
+use mathlib.Core.Path.{_≡_, refl, sym, ap, _∙_, subst}
 use mathlib.Core.Bool.{Bool, false}
 use Prim.Native.Nat.{ℕ, _+_, _-_, _*_, _/_, _%_, _^_, _<_}
 use native.Mathlib.Nat.{zero-add}
 use native.Mathlib.Omega.{arith}
 use lib.Dec.{leb}
 use lib.Ieee.{size}
-use Rattle.definitions.specs.Class.{Value, Class, nan, infinite, finite}
-use Rattle.definitions.specs.Format.{Format, Representable, Regular, topField, fieldWeight, signWeight, patterns, classOf, withSign, patternOf, houseNan, infinity, quiet, leading}
+use Rattle.definitions.specs.Class.{Value, Class, unsupported, nan, infinite, finite}
+use Rattle.definitions.specs.Format.{Format, Representable, Holds, Regular, topField, fieldWeight, signWeight, patterns, classOf, withSign, patternOf, houseNan, infinity, quiet, leading}
 use Rattle.laws.proofs.Representable.{held-placed, held-count, placed-held, magnitude-placed}
 use Rattle.laws.proofs.Layouts.{number, infinite-top}
 use Rattle.laws.proofs.Fields.{Fields, fields-read, fields-body, fields-field, fields-rest, fields-placed, placed-fields, finite-fields, infinity-rest, quiet-rest, infinity-read, quiet-read}
@@ -49,6 +49,16 @@ module _ (f : Format) (r : Regular f) where
       let c = finite-fields f n (b / fieldWeight f % (topField f + 1)) (b % fieldWeight f) v e (field-small f b) (rest-small f b) in
       subst (Representable f) (same-count (record { negative = n; count = c .significand * 2 ^ c .dropped }) v (sym (fields-read f n (c .fields)) ∙ e))
       (placed-held f (c .dropped) (c .significand) (fields-placed f r (c .fields)))
+
+  -- so that the class of every pattern is one that the format holds
+  pub read-holds : (b : ℕ) → Holds f (classOf f b)
+  read-holds b = go (classOf f b) refl
+    where
+      go : (c : Class) → classOf f b ≡ c → Holds f c
+      go unsupported e = tt
+      go nan e = tt
+      go (infinite n) e = tt
+      go (finite v) e = read-held b v e
 
   pub written-read : (b : ℕ) (v : Value) → b < patterns f → classOf f b ≡ finite v → patternOf f (finite v) ≡ b
   written-read b v h e =

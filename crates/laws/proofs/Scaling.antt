@@ -17,12 +17,12 @@ use Rattle.digits.proofs.Size.{size-pos, size-shift}
 use Rattle.digits.proofs.Digits.{digits-shift}
 use Rattle.digits.proofs.Common.{shift-back}
 use Rattle.definitions.specs.Class.{Value, Class, unsupported, nan, infinite, finite}
-use Rattle.definitions.specs.Format.{Format, Representable, Regular, reach, exponentOf, patterns, classOf, patternOf}
-use Rattle.definitions.specs.Numbers.{numberOf, checks, first}
+use Rattle.definitions.specs.Format.{Format, Representable, Regular, reach, exponentOf, patterns, classOf, patternOf, Holds}
+use Rattle.definitions.specs.Numbers.{first}
 use Rattle.definitions.specs.declared.Rounding.{Rounding}
 use Rattle.definitions.specs.declared.Rounding.the-variants.{Exact, Up, Down}
 use Rattle.definitions.specs.Round.{Rounded, round}
-use Rattle.definitions.specs.Scale.{Scaled, ScaleReport, bounded, scaleValue, scaleClass, scaleReport}
+use Rattle.definitions.specs.Scale.{Scaled, ScaleReport, bounded, scaleValue, scaleClass, scaleOf, scaleReport}
 use Rattle.laws.proofs.Representable.{zero-held}
 use Rattle.laws.proofs.Gap.{sub-cases}
 use Rattle.laws.proofs.Range.{exponent-above}
@@ -49,18 +49,11 @@ scale-round f v a b = sub-cases (λ k. scaleValue f v k ≡ boundedRound f (v .n
 
 -- ---- what is held
 
--- an infinity, or a value that the format holds
-abbrev pub HeldClass : Format → Class → Type 0
-HeldClass f unsupported = ⊥
-HeldClass f nan = ⊥
-HeldClass f (infinite s) = Unit {0}
-HeldClass f (finite v) = Representable f (v .count)
-
-pub bounded-held : (f : Format) → Regular f → (s : Bool) (n : ℕ) (says : Rounding) → Digits (f .precision) n → HeldClass f (bounded f s n says .class)
+pub bounded-held : (f : Format) → Regular f → (s : Bool) (n : ℕ) (says : Rounding) → Digits (f .precision) n → Holds f (bounded f s n says .class)
 bounded-held f r s n says d = go (ltZ (pos (f .bias)) (exponentOf f n)) (exponent-above f r n)
   where
     go : (t : Bool) → t ≡ ltb (reach f) (size n)
-        → HeldClass f (cond {A = Scaled} t (record { class = infinite s; says = Up }) (record { class = finite (record { negative = s; count = n }); says = says }) .class)
+        → Holds f (cond {A = Scaled} t (record { class = infinite s; says = Up }) (record { class = finite (record { negative = s; count = n }); says = says }) .class)
     go true e = tt
     go false e = record { digits = d; range = ltb-false (reach f) (size n) (sym e) }
 
@@ -72,18 +65,18 @@ pub bounded-infinite : (f : Format) → Regular f → (s : Bool) (n : ℕ) (says
     → bounded f s n says ≡ record { class = infinite s; says = Up }
 bounded-infinite f r s n says h = rw (exponent-above f r n, lt-ltb (reach f) (size n) h)
 
-pub scale-held : (f : Format) → Regular f → (v : Value) → Representable f (v .count) → (k : ℤ) → HeldClass f (scaleValue f v k .class)
+pub scale-held : (f : Format) → Regular f → (v : Value) → Representable f (v .count) → (k : ℤ) → Holds f (scaleValue f v k .class)
 unfolding scaleValue
 scale-held f r v h (pos k) = bounded-held f r (v .negative) (v .count * 2 ^ k) Exact (digits-shift (f .precision) (v .count) k (h .digits))
 scale-held f r v h (negsuc k) =
     let c = round (v .count) (suc k) in
     bounded-held f r (v .negative) (c .quotient) (c .says) (round-digits (f .precision) (v .count) (suc k) (omega arith) (h .digits))
 
-pub scale-class-held : (f : Format) → Regular f → (v : Value) → Representable f (v .count) → (k : ℤ) → HeldClass f (scaleClass f (finite v) k .class)
+pub scale-class-held : (f : Format) → Regular f → (v : Value) → Representable f (v .count) → (k : ℤ) → Holds f (scaleClass f (finite v) k .class)
 unfolding scaleClass
 scale-class-held f r v h k = go (eqb (v .count) 0)
   where
-    go : (t : Bool) → HeldClass f (cond {A = Scaled} t (record { class = finite v; says = Exact }) (scaleValue f v k) .class)
+    go : (t : Bool) → Holds f (cond {A = Scaled} t (record { class = finite v; says = Exact }) (scaleValue f v k) .class)
     go true = h
     go false = scale-held f r v h k
 
@@ -114,7 +107,7 @@ abbrev pub scaledReport : Format → Scaled → ScaleReport
 scaledReport f a = record { number = 0; value = patternOf f (a .class); says = a .says }
 
 pub scale-finite : (f : Format) (x : ℕ) (v : Value) (k : ℤ) → classOf f x ≡ finite v → 0 < v .count → scaleReport f x k ≡ scaledReport f (scaleValue f v k)
-unfolding scaleReport scaleClass numberOf checks first
+unfolding scaleReport scaleOf scaleClass first
 scale-finite f x v k e some = rw (e, not-zero (v .count) some)
 
 -- what a pattern that is taken stands for
@@ -127,11 +120,11 @@ Numeric (finite v) = Unit {0}
 module _ (f : Format) (r : Regular f) (x : ℕ) (small : x < patterns f) where
   -- "Zeros and infinities return themselves, exact, for each k."
   pub scale-infinite : (s : Bool) (k : ℤ) → classOf f x ≡ infinite s → scaleReport f x k ≡ unchanged x
-  unfolding scaleReport scaleClass numberOf checks first
+  unfolding scaleReport scaleOf scaleClass first
   scale-infinite s k e = rw (e, written-infinite f r x s small e)
 
   pub scale-nothing : (v : Value) (k : ℤ) → classOf f x ≡ finite v → v .count ≡ 0 → scaleReport f x k ≡ unchanged x
-  unfolding scaleReport scaleClass numberOf checks first
+  unfolding scaleReport scaleOf scaleClass first
   scale-nothing v k e none = rw (e, eq-eqb (v .count) 0 none, written-read f r x v small e)
 
   pub scale-zero : Numeric (classOf f x) → scaleReport f x (pos 0) ≡ unchanged x

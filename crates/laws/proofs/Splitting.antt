@@ -12,9 +12,9 @@ use Rattle.digits.proofs.Size.{size-pos, size-shift}
 use Rattle.digits.proofs.Digits.{pow-dvd, digits-dvd, digits-shift, digits-unshift}
 use Rattle.definitions.specs.Class.{Value, finite}
 use Rattle.definitions.specs.Format.{Format, Representable, Regular, exponentOf, patterns, classOf, patternOf}
-use Rattle.definitions.specs.Numbers.{numberOf, checks, first}
+use Rattle.definitions.specs.Numbers.{first}
 use Rattle.definitions.specs.declared.Rounding.the-variants.{Exact}
-use Rattle.definitions.specs.Scale.{scaleValue, scaleReport, significandOf, splitReport}
+use Rattle.definitions.specs.Scale.{scaleValue, scaleOf, scaleReport, significandOf, splitOf, splitReport}
 use Rattle.laws.proofs.Range.{smallest-is, exponent-is}
 use Rattle.laws.proofs.RoundTrip.{read-held, read-written, written-read}
 use Rattle.laws.proofs.Round.{round-multiple}
@@ -30,7 +30,7 @@ onePlace f = f .bias + f .precision - 2
 
 pub split-finite : (f : Format) (x : ℕ) (v : Value) → classOf f x ≡ finite v → 0 < v .count
     → splitReport f x ≡ record { number = 0; significand = patternOf f (finite (significandOf f v)); exponent = exponentOf f (v .count) }
-unfolding splitReport numberOf checks first
+unfolding splitReport splitOf first
 split-finite f x v e some = rw (e, not-zero (v .count) some)
 
 pub significand-sign : (f : Format) (v : Value) → significandOf f v .negative ≡ v .negative

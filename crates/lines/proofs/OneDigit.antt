@@ -7,7 +7,7 @@ use Rattle.definitions.specs.declared.Kind.{Kind}
 use Rattle.definitions.specs.declared.Refusal.{Refusal}
 use Rattle.definitions.specs.declared.Refusal.the-variants as why
 use Rattle.definitions.specs.Format.{Format, classOf}
-use Rattle.definitions.specs.Numbers.{numberOf, accepted, dividing}
+use Rattle.definitions.specs.Numbers.{first, accepted, dividing}
 use Rattle.definitions.specs.Division.{finish, dividendOf, divisorOf}
 use Rattle.definitions.specs.Remainder.{remainderOf, remainder, quotientModulus}
 use Rattle.definitions.specs.Answers.{refusalNumber}
@@ -28,5 +28,5 @@ quotient-shown false q = lit≤ tt
 pub quotient-digit : (f : Format) (κ : Kind) (x y : ℕ) → remainder f κ x y .quotient ≤ 9
 unfolding remainder remainderOf
 quotient-digit f κ x y =
-    quotient-shown (accepted (numberOf (dividing (classOf f x) (classOf f y))))
+    quotient-shown (accepted (first (dividing (classOf f x) (classOf f y))))
     (finish κ (divisorOf (classOf f y)) (dividendOf (classOf f x)) .whole)

@@ -8,7 +8,7 @@ use borrow.Author.Tests.{ne-eqb}
 use lib.Dec.{eqb, lit<}
 use Rattle.definitions.specs.Class.{Value, Class, unsupported, nan, infinite, finite}
 use Rattle.definitions.specs.Format.{Format, Layout, hidden, explicit, binary64, classOf, fieldsClass, topField, houseNan}
-use Rattle.definitions.specs.Numbers.{numberOf, checks, first, accepted, dividing, isUnsupported, isNan, isInfinite, isZero}
+use Rattle.definitions.specs.Numbers.{first, accepted, dividing, isUnsupported, isNan, isInfinite, isZero}
 use Rattle.definitions.specs.Remainder.{Remainder, remainderOf, remainder}
 use Rattle.definitions.specs.Answers.{remainderMeaning}
 use Rattle.definitions.specs.Fold.{bad, resultAt, byteAt}
@@ -40,8 +40,8 @@ no-refusal false false e = (refl, refl)
 
 -- by a divisor that refuses nothing, a dividend is refused exactly if it is NaN or infinite
 accepts : (x y : Class) → isUnsupported x ≡ false → isUnsupported y ≡ false → divisorNumber y ≡ 0
-    → accepted (numberOf (dividing x y)) ≡ not (isNan x || isInfinite x)
-unfolding numberOf checks first
+    → accepted (first (dividing x y)) ≡ not (isNan x || isInfinite x)
+unfolding first
 accepts unsupported y ux uy d = clash (cc)
 accepts nan y ux uy d = rw uy
 accepts (infinite n) y ux uy d = rw (uy, no-refusal (isNan y) (isZero y) d .0)
@@ -50,7 +50,7 @@ accepts (finite v) y ux uy d = rw (uy, no-refusal (isNan y) (isZero y) d .0, no-
 -- "Quotient bits are those of |Q| modulo 8."
 pub quotient-small : (f : Format) (κ : Kind) (x y : ℕ) → remainder f κ x y .quotient < 8
 unfolding remainder remainderOf
-quotient-small f κ x y = go (accepted (numberOf (dividing (classOf f x) (classOf f y)))) _
+quotient-small f κ x y = go (accepted (first (dividing (classOf f x) (classOf f y)))) _
   where
     go : (a : Bool) (q : ℕ) → cond a (q % 8) 0 < 8
     go true q = mod-lt q (lit< tt)

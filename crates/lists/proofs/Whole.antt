@@ -10,7 +10,7 @@ use lib.IntN.{ℤ}
 use lib.ListN.{length}
 use Rattle.definitions.specs.Class.{Class, unsupported, nan, infinite, finite}
 use Rattle.definitions.specs.Format.{classOf, binary64}
-use Rattle.definitions.specs.Numbers.{numberOf, checks, first}
+use Rattle.definitions.specs.Numbers.{first}
 use Rattle.definitions.specs.Fold.{Folded, foldList}
 use Rattle.definitions.specs.declared.Kind.{Kind}
 use Rattle.operands.specs.Operand.{operandOf, unpackedOf}
@@ -38,7 +38,7 @@ module _ (κ : Kind) (y : ℕ) (xs results quotients : List ℕ) where
   untouched n = record { number = n; results = results; quotients = quotients; marked = 0 }
 
   number-is : whole .number ≡ cond (not (eqb (length results) (length xs) && eqb (length quotients) (length xs))) 9 (divisorNumber (classOf binary64 y))
-  unfolding foldList numberOf checks first
+  unfolding foldList first
   number-is = refl
 
   -- a number that is not 0 leaves both lists and counts nothing

@@ -8,7 +8,7 @@ use lib.IntN.{ℤ}
 use Rattle.digits.specs.Digits.{Digits}
 use Rattle.digits.proofs.Tests.{not-zero}
 use Rattle.definitions.specs.Class.{Value, Class, unsupported, nan, infinite, finite, gap}
-use Rattle.definitions.specs.Numbers.{numberOf, checks, first, dividing, accepted}
+use Rattle.definitions.specs.Numbers.{first, dividing, accepted}
 use Rattle.definitions.specs.Division.{by, finish, finishBy}
 use Rattle.definitions.specs.Steps.{step, stepBy}
 use Rattle.definitions.specs.Answers.{refusalNumber}
@@ -40,15 +40,15 @@ refusal-refuses why.ZeroDivisor = refl
 refusal-refuses why.ZeroSplit = refl
 
 -- the divisor's number: 5 for a zero one, after the checks before it
-finite-number : (v w : Value) → numberOf (dividing (finite v) (finite w)) ≡ cond (eqb (w .count) 0) 5 0
-unfolding numberOf checks first
+finite-number : (v w : Value) → first (dividing (finite v) (finite w)) ≡ cond (eqb (w .count) 0) 5 0
+unfolding first
 finite-number v w = refl
 
 module _ (s : ℤ) (v w : Value) (hv : Digits 64 (v .count)) (hw : Digits 64 (w .count)) where
-  by-zero : w .count ≡ 0 → numberOf (dividing (finite v) (finite w)) ≡ 5
+  by-zero : w .count ≡ 0 → first (dividing (finite v) (finite w)) ≡ 5
   by-zero e = finite-number v w ∙ rw e
 
-  by-some : 0 < w .count → numberOf (dividing (finite v) (finite w)) ≡ 0
+  by-some : 0 < w .count → first (dividing (finite v) (finite w)) ≡ 0
   by-some h = finite-number v w ∙ rw (not-zero (w .count) h)
 
   -- a zero has no gap
@@ -81,7 +81,7 @@ module _ (s : ℤ) (v w : Value) (hv : Digits 64 (v .count)) (hw : Digits 64 (w 
       }))
 
 pub judged : (s : ℤ) (x y : Class) → Fits64 x → Fits64 y → Judged s x y (examinedOf (operandOf s x) (operandOf s y))
-unfolding operandOf numberOf checks first step
+unfolding operandOf first step
 judged s unsupported y hx hy = refl
 judged s nan unsupported hx hy = refl
 judged s nan nan hx hy = refl

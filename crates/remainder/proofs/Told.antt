@@ -11,7 +11,7 @@ use Rattle.digits.proofs.Digits.{digits-more}
 use Rattle.digits.proofs.Signed.{mag-add}
 use Rattle.definitions.specs.Class.{Value, Class, unsupported, nan, infinite, finite}
 use Rattle.definitions.specs.Format.{Format, Regular, Representable, classOf, patternOf, reach, x87}
-use Rattle.definitions.specs.Numbers.{numberOf, dividing, accepted}
+use Rattle.definitions.specs.Numbers.{first, dividing, accepted}
 use Rattle.definitions.specs.Division.{Outcome, finish, finishBy, unbounded, dividendOf, divisorOf}
 use Rattle.definitions.specs.Remainder.{remainderOf, remainder, refusedValue, quotientBits}
 use Rattle.definitions.specs.Answers.{refusalNumber}
@@ -89,13 +89,13 @@ module _ (f : Format) (ok : Within f) where
       both-ready = (ready (j .value) a dividend-held (j .dividend), ready (j .divisor) b divisor-held (j .by-divisor))
 
     module _ (κ : Kind) where
-      pub refused : (w : Refusal) → numberOf (dividing (classOf f x) (classOf f y)) ≡ refusalNumber w
+      pub refused : (w : Refusal) → first (dividing (classOf f x) (classOf f y)) ≡ refusalNumber w
           → record { number = refusalNumber w; value = refusedValue f; quotient = 0 } ≡ remainder f κ x y
       unfolding remainder remainderOf
       refused w e = rw (e, refusal-refuses w)
 
       -- an accepted pair: its reply, written down
-      answered : (r : Outcome) → numberOf (dividing (classOf f x) (classOf f y)) ≡ 0 → finish κ (divisorOf (classOf f y)) (dividendOf (classOf f x)) ≡ r
+      answered : (r : Outcome) → first (dividing (classOf f x) (classOf f y)) ≡ 0 → finish κ (divisorOf (classOf f y)) (dividendOf (classOf f x)) ≡ r
           → record { number = 0; value = patternOf f (finite (r .value)); quotient = quotientBits (r .whole) } ≡ remainder f κ x y
       unfolding remainder remainderOf
       answered r e q = rw (e, q)

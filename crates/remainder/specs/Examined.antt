@@ -3,7 +3,7 @@ use Prim.Native.Nat.{ℕ}
 use mathlib.Core.Path.{_≡_}
 use lib.IntN.{ℤ}
 use Rattle.definitions.specs.Class.{Value, Class, finite}
-use Rattle.definitions.specs.Numbers.{numberOf, dividing}
+use Rattle.definitions.specs.Numbers.{first, dividing}
 use Rattle.definitions.specs.Division.{finish, unbounded, divisorOf}
 use Rattle.definitions.specs.Steps.{step}
 use Rattle.definitions.specs.Answers.{refusalNumber}
@@ -42,7 +42,7 @@ examinedOf (Finite a) (Finite b) = Pair a b
 
 -- a dividend that is returned as it is: it is finite, and every kind finishes with it, in one step, and nothing taken off
 pub record ReturnsDividend (s : ℤ) (x y : Class) (o : Operand) : Type 0 where
-  pub accepted : numberOf (dividing x y) ≡ 0
+  pub accepted : first (dividing x y) ≡ 0
   pub value : Value
   pub dividend : x ≡ finite value
   pub operand : o ≡ operandOf s (finite value)
@@ -51,7 +51,7 @@ pub record ReturnsDividend (s : ℤ) (x y : Class) (o : Operand) : Type 0 where
 
 -- two values that are to be divided
 pub record Divides (s : ℤ) (x y : Class) (a b : Unpacked) : Type 0 where
-  pub accepted : numberOf (dividing x y) ≡ 0
+  pub accepted : first (dividing x y) ≡ 0
   pub value : Value
   pub divisor : Value
   pub dividend-is : x ≡ finite value
@@ -61,6 +61,6 @@ pub record Divides (s : ℤ) (x y : Class) (a b : Unpacked) : Type 0 where
 
 -- an examined pair is right about the classes x and y
 abbrev pub Judged : ℤ → Class → Class → Examined → Type 0
-Judged s x y (Refused w) = numberOf (dividing x y) ≡ refusalNumber w
+Judged s x y (Refused w) = first (dividing x y) ≡ refusalNumber w
 Judged s x y (Returned o) = ReturnsDividend s x y o
 Judged s x y (Pair a b) = Divides s x y a b

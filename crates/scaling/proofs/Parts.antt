@@ -12,7 +12,7 @@ use Rattle.digits.proofs.Digits.{digits-more}
 use Rattle.digits.proofs.Signed.{above-small}
 use Rattle.definitions.specs.Class.{Value, Class, unsupported, nan, infinite, finite}
 use Rattle.definitions.specs.Format.{Format, Representable, reach, exponentOf, classOf, patternOf}
-use Rattle.definitions.specs.Numbers.{numberOf, checks, first}
+use Rattle.definitions.specs.Numbers.{first}
 use Rattle.definitions.specs.Remainder.{refusedValue}
 use Rattle.definitions.specs.Answers.{refusalNumber}
 use Rattle.definitions.specs.Scale.{significandOf, splitReport}
@@ -81,7 +81,7 @@ module _ (f : Format) (ok : Scalable f (f .bias) (f .smallest)) where
         × (record { number = 0; significand = patternOf f (classIn (f .smallest) o); exponent = e } ≡ splitReport f x)
 
     split-none : (v : Value) → classOf f x ≡ finite v → v .count ≡ 0 → Told (splitOf (operandOf (f .smallest) (finite v)))
-    unfolding splitReport numberOf checks first
+    unfolding splitReport first
     split-none v e none = rw (zero-operand (f .smallest) v none, e, eq-eqb (v .count) 0 none)
 
     split-some : (v : Value) → classOf f x ≡ finite v → Representable f (v .count) → 0 < v .count → Told (splitOf (operandOf (f .smallest) (finite v)))
@@ -95,7 +95,7 @@ module _ (f : Format) (ok : Scalable f (f .bias) (f .smallest)) where
         (packable-operand s sig (reach f) (h .range), small, rw (class-back s sig d) (sym (split-finite f x v e some)))
 
     split-class : (c : Class) → classOf f x ≡ c → Holds f c → Told (splitOf (operandOf (f .smallest) c))
-    unfolding splitReport operandOf numberOf checks first
+    unfolding splitReport operandOf first
     split-class unsupported e h = rw e
     split-class nan e h = rw e
     split-class (infinite n) e h = rw e

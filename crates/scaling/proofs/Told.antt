@@ -10,7 +10,7 @@ use Rattle.digits.proofs.Digits.{digits-more}
 use Rattle.digits.proofs.Signed.{mag-neg}
 use Rattle.definitions.specs.Class.{Class, unsupported, nan, infinite, finite}
 use Rattle.definitions.specs.Format.{Format, reach, classOf, patternOf}
-use Rattle.definitions.specs.Numbers.{numberOf, checks, first}
+use Rattle.definitions.specs.Numbers.{first}
 use Rattle.definitions.specs.Remainder.{refusedValue}
 use Rattle.definitions.specs.Answers.{refusalNumber}
 use Rattle.definitions.specs.Scale.{scaleClass, scaleReport}
@@ -82,7 +82,7 @@ module _ (f : Format) (ok : Scalable f (f .bias) (f .smallest)) where
         × (record { number = 0; value = patternOf f (classIn (f .smallest) o); says = says } ≡ scaleReport f x k)
 
     scale-class : (k : ℤ) (c : Class) → classOf f x ≡ c → Holds f c → Told k (answerOf (f .smallest) c (scaleClass f c k))
-    unfolding scaleReport scaleClass operandOf classIn numberOf checks first
+    unfolding scaleReport scaleClass operandOf classIn first
     scale-class k unsupported e h = rw e
     scale-class k nan e h = rw e
     scale-class k (infinite n) e h = (tt, rw e)

@@ -7,7 +7,7 @@ use borrow.Author.Tests.{le-leb, lt-leb}
 use lib.Dec.{eqb, eqb·suc-zero}
 use Rattle.definitions.specs.Class.{Class, finite}
 use Rattle.definitions.specs.Format.{Representable, x87, classOf, patternOf, reach}
-use Rattle.definitions.specs.Numbers.{numberOf, checks, first, dividing, accepted}
+use Rattle.definitions.specs.Numbers.{first, dividing, accepted}
 use Rattle.definitions.specs.Division.{Outcome, by, finish, unbounded, dividendOf, divisorOf}
 use Rattle.definitions.specs.Remainder.{refusedValue, quotientBits}
 use Rattle.definitions.specs.Steps.{step, stepBy, run}
@@ -53,25 +53,25 @@ pick false false false false n = refl
 
 -- the operands' own number decides, unless it is 0
 call-number : (n : ℕ) (x y : Class) (spent partial : Bool) → sized n ≡ true
-    → numberOf (calling nothing n x y spent partial) ≡ cond (eqb (numberOf (dividing x y)) 0) (after spent partial) (numberOf (dividing x y))
-unfolding numberOf checks first after operand-number
+    → first (calling nothing n x y spent partial) ≡ cond (eqb (first (dividing x y)) 0) (after spent partial) (first (dividing x y))
+unfolding first after operand-number
 call-number n x y spent partial z =
     let t = dividing x y in
     rw z (pick (t .anyUnsupported) (t .anyNan) (t .infiniteDividend) (t .zeroDivisor) (after spent partial))
 
-missized-number : (n : ℕ) (x y : Class) → sized n ≡ false → (spent partial : Bool) → numberOf (calling nothing n x y spent partial) ≡ 6
-unfolding numberOf checks first
+missized-number : (n : ℕ) (x y : Class) → sized n ≡ false → (spent partial : Bool) → first (calling nothing n x y spent partial) ≡ 6
+unfolding first
 missized-number n x y z spent partial = rw z
 
-refused-number : (n : ℕ) (x y : Class) (w : Refusal) → sized n ≡ true → numberOf (dividing x y) ≡ refusalNumber w
-    → (spent partial : Bool) → numberOf (calling nothing n x y spent partial) ≡ refusalNumber w
+refused-number : (n : ℕ) (x y : Class) (w : Refusal) → sized n ≡ true → first (dividing x y) ≡ refusalNumber w
+    → (spent partial : Bool) → first (calling nothing n x y spent partial) ≡ refusalNumber w
 refused-number n x y w z e spent partial = call-number n x y spent partial z ∙ rw (e, first-of (eqb (refusalNumber w) 0) _ _ (refusal-refuses w))
   where
     first-of : (a b c : Bool) → a || b || c ≡ false → a ≡ false
     first-of true b c q = clash (cc)
     first-of false b c q = refl
 
-accepted-number : (n : ℕ) (x y : Class) → sized n ≡ true → numberOf (dividing x y) ≡ 0 → (spent partial : Bool) → numberOf (calling nothing n x y spent partial) ≡ after spent partial
+accepted-number : (n : ℕ) (x y : Class) → sized n ≡ true → first (dividing x y) ≡ 0 → (spent partial : Bool) → first (calling nothing n x y spent partial) ≡ after spent partial
 accepted-number n x y z e spent partial = call-number n x y spent partial z ∙ rw e
 
 -- a size, by the two comparisons
@@ -102,10 +102,10 @@ module _ (κ : Kind) (n x y : ℕ) where
 
   module _ (z : sized n ≡ true) where
     -- an accepted step's reply, written down
-    step-answered : (r : Outcome) → numberOf (dividing (classOf x87 x) (classOf x87 y)) ≡ 0 → step κ n (divisorOf (classOf x87 y)) (dividendOf (classOf x87 x)) ≡ r
+    step-answered : (r : Outcome) → first (dividing (classOf x87 x) (classOf x87 y)) ≡ 0 → step κ n (divisorOf (classOf x87 y)) (dividendOf (classOf x87 x)) ≡ r
         → record { number = cond (r .done) 0 1; value = patternOf x87 (finite (r .value)); quotient = quotientBits (r .whole); steps = r .steps } ≡ stepReport nothing κ n x y
     unfolding stepReport after
-    step-answered r e q = sym (ap (λ (s : Outcome). reportOf (numberOf (calling nothing n (classOf x87 x) (classOf x87 y) false (not (s .done)))) s) q
+    step-answered r e q = sym (ap (λ (s : Outcome). reportOf (first (calling nothing n (classOf x87 x) (classOf x87 y) false (not (s .done)))) s) q
         ∙ ap (λ (k : ℕ). reportOf k r) (accepted-number n (classOf x87 x) (classOf x87 y) z e false (not (r .done))) ∙ go (r .done))
       where
         go : (d : Bool) → reportOf (after false (not d)) r ≡ record { number = cond d 0 1; value = patternOf x87 (finite (r .value)); quotient = quotientBits (r .whole); steps = r .steps }
@@ -130,10 +130,10 @@ module _ (κ : Kind) (n b x y : ℕ) where
 
   module _ (z : sized n ≡ true) where
     -- an accepted run's reply, written down
-    run-answered : (r : Outcome) → numberOf (dividing (classOf x87 x) (classOf x87 y)) ≡ 0 → run κ n b (divisorOf (classOf x87 y)) (dividendOf (classOf x87 x)) ≡ r
+    run-answered : (r : Outcome) → first (dividing (classOf x87 x) (classOf x87 y)) ≡ 0 → run κ n b (divisorOf (classOf x87 y)) (dividendOf (classOf x87 x)) ≡ r
         → record { number = cond (r .done) 0 7; value = patternOf x87 (finite (r .value)); quotient = quotientBits (r .whole); steps = r .steps } ≡ runReport nothing κ n b x y
     unfolding runReport after
-    run-answered r e q = sym (ap (λ (s : Outcome). reportOf (numberOf (calling nothing n (classOf x87 x) (classOf x87 y) (not (s .done)) false)) s) q
+    run-answered r e q = sym (ap (λ (s : Outcome). reportOf (first (calling nothing n (classOf x87 x) (classOf x87 y) (not (s .done)) false)) s) q
         ∙ ap (λ (k : ℕ). reportOf k r) (accepted-number n (classOf x87 x) (classOf x87 y) z e (not (r .done)) false) ∙ go (r .done))
       where
         go : (d : Bool) → reportOf (after (not d) false) r ≡ record { number = cond d 0 7; value = patternOf x87 (finite (r .value)); quotient = quotientBits (r .whole); steps = r .steps }
