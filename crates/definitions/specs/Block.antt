@@ -1,21 +1,17 @@
 -- The 16-byte answer block of the exported step and run. Definitions only.
-use Prim.Native.Nat.{ℕ, zero, suc, _/_, _%_}
+use Prim.Native.Nat.{ℕ}
 use mathlib.Core.Bool.{cond}
-use mathlib.Core.List.{List, [], _∷_, _++_}
+use mathlib.Core.List.{List, _∷_, _++_}
 use lib.Dec.{eqb}
 use Rattle.definitions.specs.Numbers.{accepted}
 use Rattle.definitions.specs.declared.Kind.{Kind}
 use Rattle.definitions.specs.declared.Kind.the-variants.{Truncated, Nearest}
+use Rattle.definitions.specs.Bytes.{bytesOf}
 use Rattle.definitions.specs.Reports.{Report}
 
 -- "The kind comes as a number: 0 is truncated, any other is nearest."
 abbrev pub kindOf : ℕ → Kind
 kindOf k = cond (eqb k 0) Truncated Nearest
-
--- k bytes of n, "little-endian"
-abbrev pub bytesOf : ℕ → ℕ → List ℕ
-bytesOf zero n = []
-bytesOf (suc k) n = n % 256 ∷ bytesOf k (n / 256)
 
 -- "significand, 8 bytes little-endian; sign and exponent word, 2 bytes little-endian; answer number; quotient bits; steps as 4 bytes
 -- little-endian". A pattern is its word times 2 ^ 64 plus its significand, so that its ten bytes are the first two in a row.

@@ -10,9 +10,13 @@ use Rattle.definitions.specs.Numbers.{Check, check, first, isNan, isInfi
 use Rattle.definitions.specs.declared.Kind.{Kind}
 use Rattle.definitions.specs.Remainder.{remainder}
 
--- "lists of unequal length"; "A NaN divisor is 3 and a zero one 5, for the whole list"
+-- "A NaN divisor is 3 and a zero one 5, for the whole list"
+abbrev pub dividingList : Class → List Check
+dividingList y = check 3 (isNan y) ∷ check 5 (isZero y) ∷ []
+
+-- "lists of unequal length" come first
 abbrev pub folding : ℕ → ℕ → ℕ → Class → List Check
-folding xs results quotients y = check 9 (not (eqb results xs && eqb quotients xs)) ∷ check 3 (isNan y) ∷ check 5 (isZero y) ∷ []
+folding xs results quotients y = check 9 (not (eqb results xs && eqb quotients xs)) ∷ dividingList y
 
 -- "a NaN or infinite dividend gets the house NaN and byte 255"
 abbrev pub bad : ℕ → Bool

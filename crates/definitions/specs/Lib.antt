@@ -11,6 +11,7 @@ pub mod Round
 pub mod Scale
 pub mod Answers
 pub mod Fold
+pub mod Bytes
 pub mod Block
 pub mod Line
 pub mod Table

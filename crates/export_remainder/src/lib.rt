@@ -1,18 +1,16 @@
 // The exports of the remainder in one call, a function a format.
-use definitions::Extended;
+use checks::number_of;
 use definitions::RemainderAnswer;
-use definitions::RemainderAnswer80;
 use interface::kind_of;
 use remainder::patterns::remainder16;
 use remainder::patterns::remainder32;
 use remainder::patterns::remainder64;
 use remainder::patterns::remainder80;
-use remainder::refusal::refusal_number;
 ghost use mathlib.Core.Path.{_≡_};
-ghost use Rattle.definitions.specs.Format.{binary16, binary32, binary64, x87};
+ghost use Rattle.definitions.specs.Format.{binary16, binary32, binary64, x87, words};
 ghost use Rattle.definitions.specs.Remainder.{remainder};
 ghost use Rattle.definitions.specs.Block.{kindOf};
-ghost use Rattle.interface.specs.Interface.{after, significandIn, wordIn, pattern};
+ghost use Rattle.interface.specs.Interface.{after, significandIn, wordIn};
 
 #[no_mangle]
 pub extern "C" fn zk_rem16(x: u16, y: u16, kind: u32, value: &mut u16, quotient: &mut u32) -> u8
@@ -25,11 +23,11 @@ pub extern "C" fn zk_rem16(x: u16, y: u16, kind: u32, value: &mut u16, quotient:
             value: v,
             quotient: q,
         } => {
-            *value = v as u16;
+            *value = v.low as u16;
             *quotient = q;
             0
         }
-        RemainderAnswer::Refused(why) => refusal_number(why),
+        RemainderAnswer::Refused(why) => number_of(why),
     }
 }
 
@@ -44,11 +42,11 @@ pub extern "C" fn zk_rem32(x: u32, y: u32, kind: u32, value: &mut u32, quotient:
             value: v,
             quotient: q,
         } => {
-            *value = v as u32;
+            *value = v.low as u32;
             *quotient = q;
             0
         }
-        RemainderAnswer::Refused(why) => refusal_number(why),
+        RemainderAnswer::Refused(why) => number_of(why),
     }
 }
 
@@ -63,11 +61,11 @@ pub extern "C" fn zk_rem64(x: u64, y: u64, kind: u32, value: &mut u64, quotient:
             value: v,
             quotient: q,
         } => {
-            *value = v;
+            *value = v.low;
             *quotient = q;
             0
         }
-        RemainderAnswer::Refused(why) => refusal_number(why),
+        RemainderAnswer::Refused(why) => number_of(why),
     }
 }
 
@@ -82,29 +80,21 @@ pub extern "C" fn zk_rem80(
     valuew: &mut u16,
     quotient: &mut u32,
 ) -> u8
-    ensures number { λ r. ⌜ r ≡ remainder x87 (kindOf kind) (pattern x xw) (pattern y yw) .number ⌝ }
-    ensures value { λ r. ⌜ now (value .exit) ≡ after r (significandIn (remainder x87 (kindOf kind) (pattern x xw) (pattern y yw) .value)) (now (value .entry)) ⌝ }
-    ensures valuew { λ r. ⌜ now (valuew .exit) ≡ after r (wordIn (remainder x87 (kindOf kind) (pattern x xw) (pattern y yw) .value)) (now (valuew .entry)) ⌝ }
-    ensures quotient { λ r. ⌜ now (quotient .exit) ≡ after r (remainder x87 (kindOf kind) (pattern x xw) (pattern y yw) .quotient) (now (quotient .entry)) ⌝ }
+    ensures number { λ r. ⌜ r ≡ remainder x87 (kindOf kind) (words xw x) (words yw y) .number ⌝ }
+    ensures value { λ r. ⌜ now (value .exit) ≡ after r (significandIn (remainder x87 (kindOf kind) (words xw x) (words yw y) .value)) (now (value .entry)) ⌝ }
+    ensures valuew { λ r. ⌜ now (valuew .exit) ≡ after r (wordIn (remainder x87 (kindOf kind) (words xw x) (words yw y) .value)) (now (valuew .entry)) ⌝ }
+    ensures quotient { λ r. ⌜ now (quotient .exit) ≡ after r (remainder x87 (kindOf kind) (words xw x) (words yw y) .quotient) (now (quotient .entry)) ⌝ }
 {
-    let dividend = Extended {
-        significand: x,
-        word: xw,
-    };
-    let divisor = Extended {
-        significand: y,
-        word: yw,
-    };
-    match remainder80(dividend, divisor, kind_of(kind)) {
-        RemainderAnswer80::Finished {
+    match remainder80(x, xw, y, yw, kind_of(kind)) {
+        RemainderAnswer::Finished {
             value: v,
             quotient: q,
         } => {
-            *value = v.significand;
-            *valuew = v.word;
+            *value = v.low;
+            *valuew = v.high as u16;
             *quotient = q;
             0
         }
-        RemainderAnswer80::Refused(why) => refusal_number(why),
+        RemainderAnswer::Refused(why) => number_of(why),
     }
 }

@@ -1,17 +1,15 @@
 // Scaling by a power of two, for each format.
-use definitions::Extended;
+use checks::number_of;
 use definitions::ScaleAnswer;
-use definitions::ScaleAnswer80;
 use interface::says_number;
-use remainder::refusal::refusal_number;
 use scaling::scale::scale16;
 use scaling::scale::scale32;
 use scaling::scale::scale64;
 use scaling::scale::scale80;
 ghost use mathlib.Core.Path.{_≡_};
-ghost use Rattle.definitions.specs.Format.{binary16, binary32, binary64, x87};
+ghost use Rattle.definitions.specs.Format.{binary16, binary32, binary64, x87, words};
 ghost use Rattle.definitions.specs.Scale.{scaleReport};
-ghost use Rattle.interface.specs.Interface.{after, saysNumber, significandIn, wordIn, pattern};
+ghost use Rattle.interface.specs.Interface.{after, saysNumber, significandIn, wordIn};
 
 #[no_mangle]
 pub extern "C" fn zk_scale16(x: u16, power: i32, value: &mut u16, says: &mut u8) -> u8
@@ -21,11 +19,11 @@ pub extern "C" fn zk_scale16(x: u16, power: i32, value: &mut u16, says: &mut u8)
 {
     match scale16(x, power) {
         ScaleAnswer::Scaled { value: v, says: s } => {
-            *value = v as u16;
+            *value = v.low as u16;
             *says = says_number(s);
             0
         }
-        ScaleAnswer::Refused(why) => refusal_number(why),
+        ScaleAnswer::Refused(why) => number_of(why),
     }
 }
 
@@ -37,11 +35,11 @@ pub extern "C" fn zk_scale32(x: u32, power: i32, value: &mut u32, says: &mut u8)
 {
     match scale32(x, power) {
         ScaleAnswer::Scaled { value: v, says: s } => {
-            *value = v as u32;
+            *value = v.low as u32;
             *says = says_number(s);
             0
         }
-        ScaleAnswer::Refused(why) => refusal_number(why),
+        ScaleAnswer::Refused(why) => number_of(why),
     }
 }
 
@@ -53,11 +51,11 @@ pub extern "C" fn zk_scale64(x: u64, power: i32, value: &mut u64, says: &mut u8)
 {
     match scale64(x, power) {
         ScaleAnswer::Scaled { value: v, says: s } => {
-            *value = v;
+            *value = v.low;
             *says = says_number(s);
             0
         }
-        ScaleAnswer::Refused(why) => refusal_number(why),
+        ScaleAnswer::Refused(why) => number_of(why),
     }
 }
 
@@ -70,22 +68,18 @@ pub extern "C" fn zk_scale80(
     valuew: &mut u16,
     says: &mut u8,
 ) -> u8
-    ensures number { λ r. ⌜ r ≡ scaleReport x87 (pattern x xw) power .number ⌝ }
-    ensures value { λ r. ⌜ now (value .exit) ≡ after r (significandIn (scaleReport x87 (pattern x xw) power .value)) (now (value .entry)) ⌝ }
-    ensures valuew { λ r. ⌜ now (valuew .exit) ≡ after r (wordIn (scaleReport x87 (pattern x xw) power .value)) (now (valuew .entry)) ⌝ }
-    ensures says { λ r. ⌜ now (says .exit) ≡ after r (saysNumber (scaleReport x87 (pattern x xw) power .says)) (now (says .entry)) ⌝ }
+    ensures number { λ r. ⌜ r ≡ scaleReport x87 (words xw x) power .number ⌝ }
+    ensures value { λ r. ⌜ now (value .exit) ≡ after r (significandIn (scaleReport x87 (words xw x) power .value)) (now (value .entry)) ⌝ }
+    ensures valuew { λ r. ⌜ now (valuew .exit) ≡ after r (wordIn (scaleReport x87 (words xw x) power .value)) (now (valuew .entry)) ⌝ }
+    ensures says { λ r. ⌜ now (says .exit) ≡ after r (saysNumber (scaleReport x87 (words xw x) power .says)) (now (says .entry)) ⌝ }
 {
-    let operand = Extended {
-        significand: x,
-        word: xw,
-    };
-    match scale80(operand, power) {
-        ScaleAnswer80::Scaled { value: v, says: s } => {
-            *value = v.significand;
-            *valuew = v.word;
+    match scale80(x, xw, power) {
+        ScaleAnswer::Scaled { value: v, says: s } => {
+            *value = v.low;
+            *valuew = v.high as u16;
             *says = says_number(s);
             0
         }
-        ScaleAnswer80::Refused(why) => refusal_number(why),
+        ScaleAnswer::Refused(why) => number_of(why),
     }
 }

@@ -1,16 +1,14 @@
 // Splitting into a significand and an exponent, for each format.
-use definitions::Extended;
+use checks::number_of;
 use definitions::SplitAnswer;
-use definitions::SplitAnswer80;
-use remainder::refusal::refusal_number;
 use scaling::split::split16;
 use scaling::split::split32;
 use scaling::split::split64;
 use scaling::split::split80;
 ghost use mathlib.Core.Path.{_≡_};
-ghost use Rattle.definitions.specs.Format.{binary16, binary32, binary64, x87};
+ghost use Rattle.definitions.specs.Format.{binary16, binary32, binary64, x87, words};
 ghost use Rattle.definitions.specs.Scale.{splitReport};
-ghost use Rattle.interface.specs.Interface.{after, significandIn, wordIn, pattern};
+ghost use Rattle.interface.specs.Interface.{after, significandIn, wordIn};
 
 #[no_mangle]
 pub extern "C" fn zk_split16(x: u16, significand: &mut u16, exponent: &mut i32) -> u8
@@ -23,11 +21,11 @@ pub extern "C" fn zk_split16(x: u16, significand: &mut u16, exponent: &mut i32) 
             significand: s,
             exponent: e,
         } => {
-            *significand = s as u16;
+            *significand = s.low as u16;
             *exponent = e;
             0
         }
-        SplitAnswer::Refused(why) => refusal_number(why),
+        SplitAnswer::Refused(why) => number_of(why),
     }
 }
 
@@ -42,11 +40,11 @@ pub extern "C" fn zk_split32(x: u32, significand: &mut u32, exponent: &mut i32) 
             significand: s,
             exponent: e,
         } => {
-            *significand = s as u32;
+            *significand = s.low as u32;
             *exponent = e;
             0
         }
-        SplitAnswer::Refused(why) => refusal_number(why),
+        SplitAnswer::Refused(why) => number_of(why),
     }
 }
 
@@ -61,11 +59,11 @@ pub extern "C" fn zk_split64(x: u64, significand: &mut u64, exponent: &mut i32) 
             significand: s,
             exponent: e,
         } => {
-            *significand = s;
+            *significand = s.low;
             *exponent = e;
             0
         }
-        SplitAnswer::Refused(why) => refusal_number(why),
+        SplitAnswer::Refused(why) => number_of(why),
     }
 }
 
@@ -77,25 +75,21 @@ pub extern "C" fn zk_split80(
     significandw: &mut u16,
     exponent: &mut i32,
 ) -> u8
-    ensures number { λ r. ⌜ r ≡ splitReport x87 (pattern x xw) .number ⌝ }
-    ensures significand { λ r. ⌜ now (significand .exit) ≡ after r (significandIn (splitReport x87 (pattern x xw) .significand)) (now (significand .entry)) ⌝ }
-    ensures significandw { λ r. ⌜ now (significandw .exit) ≡ after r (wordIn (splitReport x87 (pattern x xw) .significand)) (now (significandw .entry)) ⌝ }
-    ensures exponent { λ r. ⌜ now (exponent .exit) ≡ after r (splitReport x87 (pattern x xw) .exponent) (now (exponent .entry)) ⌝ }
+    ensures number { λ r. ⌜ r ≡ splitReport x87 (words xw x) .number ⌝ }
+    ensures significand { λ r. ⌜ now (significand .exit) ≡ after r (significandIn (splitReport x87 (words xw x) .significand)) (now (significand .entry)) ⌝ }
+    ensures significandw { λ r. ⌜ now (significandw .exit) ≡ after r (wordIn (splitReport x87 (words xw x) .significand)) (now (significandw .entry)) ⌝ }
+    ensures exponent { λ r. ⌜ now (exponent .exit) ≡ after r (splitReport x87 (words xw x) .exponent) (now (exponent .entry)) ⌝ }
 {
-    let operand = Extended {
-        significand: x,
-        word: xw,
-    };
-    match split80(operand) {
-        SplitAnswer80::Parts {
+    match split80(x, xw) {
+        SplitAnswer::Parts {
             significand: s,
             exponent: e,
         } => {
-            *significand = s.significand;
-            *significandw = s.word;
+            *significand = s.low;
+            *significandw = s.high as u16;
             *exponent = e;
             0
         }
-        SplitAnswer80::Refused(why) => refusal_number(why),
+        SplitAnswer::Refused(why) => number_of(why),
     }
 }

@@ -1,19 +1,55 @@
 // The exports of the step and the run, on numbers and a lent block of 16 bytes for the answer.
 use block::fill;
-use definitions::Extended;
-use definitions::RunAnswer;
-use definitions::StepAnswer;
+use checks::number_of;
+use definitions::Refusal;
+use definitions::StepsAnswer;
 use interface::kind_of;
-use remainder::refusal::refusal_number;
-use steps::run::run80;
-use steps::step::step80;
+use steps::patterns::run80;
+use steps::patterns::step80;
 ghost use mathlib.Core.Path.{_≡_};
-ghost use Rattle.definitions.specs.Reports.{stepReport, runReport};
+ghost use mathlib.Core.Bool.{true};
+ghost use Prim.Native.Nat.{_<_};
+ghost use lib.ListN.{length};
+ghost use Rattle.definitions.specs.Format.{words, x87, patterns};
+ghost use Rattle.definitions.specs.Numbers.{accepted};
+ghost use Rattle.definitions.specs.Reports.{blockLength, stepReport, runReport};
+ghost use Rattle.definitions.specs.Answers.{stepsMeaning};
 ghost use Rattle.definitions.specs.Block.{kindOf, blockAfter};
-ghost use Rattle.interface.specs.Interface.{lending, pattern};
+ghost use Rattle.interface.specs.Interface.{lending};
 
-// The length of the block.
+// The length of the block, and the numbers of a partial step and of a run with a spent budget.
 const BLOCK_LENGTH: usize = 16;
+
+const PARTIAL: u8 = 1;
+
+const SPENT: u8 = 7;
+
+// An answer's number, and its block if it is no refusal.
+fn write(block: &mut [u8], answer: StepsAnswer, unfinished: u8) -> u8
+    requires { ⌜ (length (now block) ≡ blockLength) × (stepsMeaning unfinished answer .value < patterns x87) × (stepsMeaning unfinished answer .quotient < 256) × (accepted unfinished ≡ true) ⌝ }
+    ensures number { λ r. ⌜ r ≡ stepsMeaning unfinished answer .number ⌝ }
+    ensures block { λ _. ⌜ now (block .exit) ≡ blockAfter (now (block .entry)) (stepsMeaning unfinished answer) ⌝ }
+{
+    match answer {
+        StepsAnswer::Finished {
+            value,
+            quotient,
+            steps,
+        } => {
+            fill(block, value, 0, quotient as u8, steps);
+            0
+        }
+        StepsAnswer::Unfinished {
+            value,
+            quotient,
+            steps,
+        } => {
+            fill(block, value, unfinished, quotient as u8, steps);
+            unfinished
+        }
+        StepsAnswer::Refused(why) => number_of(why),
+    }
+}
 
 #[no_mangle]
 pub extern "C" fn zk_step80(
@@ -25,31 +61,13 @@ pub extern "C" fn zk_step80(
     kind: u32,
     block: &mut [u8],
 ) -> u8
-    ensures number { λ r. ⌜ r ≡ stepReport (lending (now (block .entry))) (kindOf kind) size (pattern x xw) (pattern y yw) .number ⌝ }
-    ensures block { λ _. ⌜ now (block .exit) ≡ blockAfter (now (block .entry)) (stepReport (lending (now (block .entry))) (kindOf kind) size (pattern x xw) (pattern y yw)) ⌝ }
+    ensures number { λ r. ⌜ r ≡ stepReport (lending (now (block .entry))) (kindOf kind) size (words xw x) (words yw y) .number ⌝ }
+    ensures block { λ _. ⌜ now (block .exit) ≡ blockAfter (now (block .entry)) (stepReport (lending (now (block .entry))) (kindOf kind) size (words xw x) (words yw y)) ⌝ }
 {
     if block.len() != BLOCK_LENGTH {
-        return 9;
+        return number_of(Refusal::Misfit);
     }
-    let dividend = Extended {
-        significand: x,
-        word: xw,
-    };
-    let divisor = Extended {
-        significand: y,
-        word: yw,
-    };
-    match step80(dividend, divisor, size, kind_of(kind)) {
-        StepAnswer::Finished { value, quotient } => {
-            fill(block, value, 0, quotient as u8, 1);
-            0
-        }
-        StepAnswer::Partial { value, quotient } => {
-            fill(block, value, 1, quotient as u8, 1);
-            1
-        }
-        StepAnswer::Refused(why) => refusal_number(why),
-    }
+    write(block, step80(x, xw, y, yw, size, kind_of(kind)), PARTIAL)
 }
 
 #[no_mangle]
@@ -63,37 +81,15 @@ pub extern "C" fn zk_run80(
     budget: u32,
     block: &mut [u8],
 ) -> u8
-    ensures number { λ r. ⌜ r ≡ runReport (lending (now (block .entry))) (kindOf kind) size budget (pattern x xw) (pattern y yw) .number ⌝ }
-    ensures block { λ _. ⌜ now (block .exit) ≡ blockAfter (now (block .entry)) (runReport (lending (now (block .entry))) (kindOf kind) size budget (pattern x xw) (pattern y yw)) ⌝ }
+    ensures number { λ r. ⌜ r ≡ runReport (lending (now (block .entry))) (kindOf kind) size budget (words xw x) (words yw y) .number ⌝ }
+    ensures block { λ _. ⌜ now (block .exit) ≡ blockAfter (now (block .entry)) (runReport (lending (now (block .entry))) (kindOf kind) size budget (words xw x) (words yw y)) ⌝ }
 {
     if block.len() != BLOCK_LENGTH {
-        return 9;
+        return number_of(Refusal::Misfit);
     }
-    let dividend = Extended {
-        significand: x,
-        word: xw,
-    };
-    let divisor = Extended {
-        significand: y,
-        word: yw,
-    };
-    match run80(dividend, divisor, size, kind_of(kind), budget) {
-        RunAnswer::Finished {
-            value,
-            quotient,
-            steps,
-        } => {
-            fill(block, value, 0, quotient as u8, steps);
-            0
-        }
-        RunAnswer::Spent {
-            value,
-            quotient,
-            steps,
-        } => {
-            fill(block, value, 7, quotient as u8, steps);
-            7
-        }
-        RunAnswer::Refused(why) => refusal_number(why),
-    }
+    write(
+        block,
+        run80(x, xw, y, yw, size, kind_of(kind), budget),
+        SPENT,
+    )
 }

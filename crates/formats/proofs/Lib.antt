@@ -1,3 +1,2 @@
-pub mod Bounds
-pub mod Words
-pub mod Shapes
+pub mod Sounds
+pub mod Standing

@@ -1,5 +1,8 @@
-// Bit patterns taken apart and put together, for binary16, binary32, binary64 and x87.
+// Bit patterns taken apart and put together, for every format of one word of significand.
 // All formats meet in `Operand`, so everything above is written once.
-pub mod extended;
-pub mod formats;
-pub mod interchange;
+pub mod binary;
+pub mod fields;
+pub mod pack;
+pub mod shape;
+pub mod unpack;
+pub mod x87;

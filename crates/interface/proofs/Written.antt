@@ -4,8 +4,8 @@ use Prim.Native.Nat.{ℕ, _^_, _<_}
 use native.Mathlib.Omega.{arith}
 use Rattle.definitions.specs.Answers.{refusalNumber, joined}
 use Rattle.definitions.specs.declared.Refusal.{Refusal}
-use Rattle.definitions.specs.declared.Extended.{Extended}
-use Rattle.remainder.proofs.Judge.{refusal-refuses}
+use Rattle.definitions.specs.declared.Pattern.{Pattern}
+use Rattle.laws.proofs.Order.{refusal-refuses}
 use Rattle.interface.specs.Interface.{after, significandIn, wordIn}
 
 -- a refusal leaves what was lent
@@ -13,8 +13,8 @@ pub kept : {A : Type 0} (w : Refusal) (n : ℕ) (answer lent : A) → n ≡ refu
 kept w n answer lent e = rw (e, refusal-refuses w)
 
 -- the two words of an x87 pattern, out of the one number
-pub significand-of : (v : Extended) → v .significand < 2 ^ 64 → v .significand ≡ significandIn (joined v)
+pub significand-of : (v : Pattern) → v .low < 2 ^ 64 → v .low ≡ significandIn (joined v)
 significand-of v h = omega arith
 
-pub word-of : (v : Extended) → v .significand < 2 ^ 64 → v .word ≡ wordIn (joined v)
+pub word-of : (v : Pattern) → v .low < 2 ^ 64 → v .high ≡ wordIn (joined v)
 word-of v h = omega arith

@@ -1,5 +1,5 @@
 -- What C hands over and gets back as numbers, and what lent memory holds after a call. Definitions only.
-use Prim.Native.Nat.{ℕ, _+_, _*_, _/_, _%_, _^_}
+use Prim.Native.Nat.{ℕ, _/_, _%_, _^_}
 use mathlib.Core.Bool.{cond}
 use mathlib.Core.List.{List}
 use lib.ListN.{length}
@@ -12,10 +12,7 @@ use Rattle.definitions.specs.declared.Rounding.the-variants.{Exact, Up, Down}
 abbrev pub after : {A : Type 0} → ℕ → A → A → A
 after number answer lent = cond (accepted number) answer lent
 
--- the one number that an x87 pattern's significand and word are, and each of the two
-abbrev pub pattern : ℕ → ℕ → ℕ
-pattern significand word = word * 2 ^ 64 + significand
-
+-- the significand and the word of an x87 pattern
 abbrev pub significandIn : ℕ → ℕ
 significandIn b = b % 2 ^ 64
 

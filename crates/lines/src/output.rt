@@ -1,11 +1,11 @@
 // The lines that are written: an answer, and `bad line`.
+use checks::number_of;
 use definitions::RemainderAnswer;
-use formats::formats::Binary64;
+use formats::binary::Binary64;
 use hex::upper_hex;
-use remainder::refusal::refusal_number;
 ghost use mathlib.Core.Path.{_≡_};
 ghost use mathlib.Core.List.{[], _∷_, _++_};
-ghost use Prim.Native.Nat.{_≤_};
+ghost use Prim.Native.Nat.{_≤_, _<_, _^_};
 ghost use Rattle.definitions.specs.Format.{binary64};
 ghost use Rattle.definitions.specs.Answers.{remainderMeaning};
 ghost use Rattle.definitions.specs.Line.{hexDigits, answerLine, badLine};
@@ -45,15 +45,15 @@ fn digits_line(value: u64, quotient_digit: u8, number_digit: u8) -> Output
 
 // The line of an answer. Only `answer_line` calls it, with an answer of `remainder64`, whose quotient bits are below 8: one digit.
 pub fn line_of_answer(answer: RemainderAnswer) -> Output
-    requires { ⌜ remainderMeaning binary64 answer .quotient ≤ 9 ⌝ }
+    requires { ⌜ (remainderMeaning binary64 answer .value < 2 ^ 64) × (remainderMeaning binary64 answer .quotient ≤ 9) ⌝ }
     ensures { λ r. ⌜ r ≡ outputOf (answerLine (remainderMeaning binary64 answer)) ⌝ }
 {
     match answer {
         RemainderAnswer::Finished { value, quotient } => {
-            digits_line(value, b'0' + (quotient as u8), b'0')
+            digits_line(value.low, b'0' + (quotient as u8), b'0')
         }
         RemainderAnswer::Refused(why) => {
-            digits_line(Binary64::HOUSE_NAN, b'0', b'0' + refusal_number(why))
+            digits_line(Binary64::HOUSE_NAN, b'0', b'0' + number_of(why))
         }
     }
 }

@@ -1,4 +1,4 @@
--- The significand of a count, with its leading one at bit 63: it is the count in another place, it can be packed, and it is read back. Assumes nothing.
+-- The significand of a count, with its leading one at bit 63: it is the count in another place, and it is read back. Assumes nothing.
 use mathlib.Core.Path.{_≡_, refl, sym, ap, _∙_, subst}
 use mathlib.Core.Bool.{Bool, true, false}
 use Prim.Native.Nat.{ℕ, _+_, _-_, _*_, _/_, _^_, _≤_, _<_, _∣_}
@@ -12,11 +12,11 @@ use lib.Ieee.{size}
 use lib.Ieee.Digits.{size-lt}
 use Rattle.digits.specs.Digits.{Digits}
 use Rattle.digits.proofs.Digits.{pow-dvd, digits-dvd}
-use Rattle.digits.proofs.Signed.{add-sub, below-add}
+use Rattle.digits.proofs.Signed.{add-sub}
 use Rattle.digits.proofs.Size.{size-pos, size-top}
 use Rattle.digits.proofs.Tests.{not-zero}
 use Rattle.definitions.specs.Class.{Value, finite}
-use Rattle.operands.specs.Operand.{unpackedOf, operandOf, classIn, placeIn, Packable, PackableOperand}
+use Rattle.operands.specs.Operand.{unpackedOf, operandOf, classIn, placeIn}
 use Rattle.operands.specs.declared.Operand.{Operand}
 use Rattle.operands.specs.declared.Operand.the-variants.{Zero, Finite}
 
@@ -60,21 +60,8 @@ module _ (s : ℤ) (v : Value) where
       go false e = let h = pos-of-ne-zero (eqb-false (v .count) 0 e) in subst P (sym (some-operand h)) (g h)
 
   -- its place, counted from the smallest one
-  place-is : placeIn s (s +ℤ pos (size (v .count) - 1)) ≡ size (v .count) - 1
+  pub place-is : placeIn s (s +ℤ pos (size (v .count) - 1)) ≡ size (v .count) - 1
   place-is = ap natAbs (add-sub s (pos (size (v .count) - 1)))
-
-  pub packable : (limit : ℕ) → 0 < v .count → size (v .count) ≤ limit → Packable s limit (unpackedOf s v)
-  unfolding unpackedOf
-  packable limit h l =
-      record {
-        top = lead-top (v .count) h;
-        word = lead-word (v .count) h;
-        above = below-add s (size (v .count) - 1);
-        range = rw place-is (let p = size-pos (v .count) h in omega arith);
-      }
-
-  pub packable-operand : (limit : ℕ) → size (v .count) ≤ limit → PackableOperand s limit (operandOf s (finite v))
-  packable-operand limit l = by-count (PackableOperand s limit) (λ z. tt) (λ h. packable limit h l)
 
   -- what was unpacked is read back
   pub class-back : Digits 64 (v .count) → classIn s (operandOf s (finite v)) ≡ finite v

@@ -1,2 +1,3 @@
 pub mod Lead
 pub mod Normal
+pub mod Cases

@@ -13,7 +13,7 @@ use lib.Ieee.{size}
 use Rattle.definitions.specs.Class.{finite}
 use Rattle.digits.proofs.Tests.{not-zero}
 use Rattle.digits.proofs.Size.{size-shift, size-leading, size-pos, size-between, size-cut}
-use Rattle.operands.specs.Operand.{operandOf, unpackedOf, normalOf, trimmedOf}
+use Rattle.operands.specs.Operand.{operandOf, unpackedOf, normalOf}
 
 -- the count of a value that is not zero is not zero
 module _ (s : ℤ) (n : Bool) (r t c : ℕ) (word : r < 2 ^ 64) (same : r * 2 ^ t ≡ c * 2 ^ 63) (some : 0 < r) where
@@ -65,13 +65,3 @@ module _ (a t : ℕ) (top : 2 ^ 63 ≤ a) (word : a < 2 ^ 64) where
       let p : 0 < a = lt-of-lt-of-le (pow-pos 63) top in
       let u = size-shift a t p in
       omega (arith, size-cut (a * 2 ^ t) 63 (omega arith))
-
-  -- cut to p digits, of which it keeps `kept` below the leading one
-  pub trim-is : (p kept : ℕ) → kept ≤ t → kept ≤ 63 → t - kept ≡ suc t - p
-      → record { dropped = t - kept; significand = a / 2 ^ (63 - kept) } ≡ trimmedOf p (a * 2 ^ t / 2 ^ 63)
-  trim-is p kept h g e =
-      let q : 63 + (t - kept) ≡ 63 - kept + t = omega arith in
-      let u : a * 2 ^ t / 2 ^ 63 / 2 ^ (t - kept) ≡ a / 2 ^ (63 - kept) =
-      shr-shr (a * 2 ^ t) 63 (t - kept) ∙ ap (λ (i : ℕ). a * 2 ^ t / 2 ^ i) q ∙ ap (λ (i : ℕ). a * 2 ^ t / i) (pow-add 2 (63 - kept) t)
-      ∙ mul-div-mul-right a (2 ^ (63 - kept)) (pow-pos t) in
-      rw (count-size, ← e, u)

@@ -1,16 +1,21 @@
 -- How the code holds an operand. Nothing to believe: these only name the code's own values, so that contracts can be equations.
 use Prim.Native.Nat.{ℕ, _-_, _*_, _/_, _^_, _≤_, _<_}
+use mathlib.Core.Path.{_≡_}
 use mathlib.Core.Bool.{Bool, cond}
 use lib.Count.{leadingZeros}
-use lib.Dec.{eqb, T}
+use lib.Dec.{eqb}
 use lib.IntN.{ℤ, pos, natAbs, _+ℤ_, _-ℤ_}
-use lib.Signed.{leZ}
+use lib.Signed.{mag}
 use lib.Ieee.{size}
+use Rattle.digits.specs.Digits.{Digits}
 use Rattle.definitions.specs.Class.{Value, Class, unsupported, nan, infinite, finite}
+use Rattle.definitions.specs.Division as division
+use Rattle.definitions.specs.Division.{dividendOf}
 use Rattle.operands.specs.declared.Unpacked.{Unpacked}
 use Rattle.operands.specs.declared.Operand.{Operand}
 use Rattle.operands.specs.declared.Operand.the-variants.{Unsupported, Nan, Infinite, Zero, Finite}
-use Rattle.operands.specs.declared.Trimmed.{Trimmed}
+use Rattle.operands.specs.declared.Divisor.{Divisor}
+use Rattle.operands.specs.declared.Divisor.the-variants.{Unbounded, By}
 
 -- a nonzero value with its leading one at bit 63, and its exponent, where the smallest place is 2 ^ s
 unfoldable pub unpackedOf : ℤ → Value → Unpacked
@@ -45,20 +50,33 @@ unfoldable pub normalOf : Bool → ℕ → ℤ → Operand
 normalOf n a e =
     cond (eqb a 0) (Zero n) (Finite (record { negative = n; significand = a * 2 ^ leadingZeros 64 a; exponent = e -ℤ pos (leadingZeros 64 a) }))
 
--- the leading p digits of a count, and how many lie below them
-abbrev pub trimmedOf : ℕ → ℕ → Trimmed
-trimmedOf p n = record { dropped = size n - p; significand = n / 2 ^ (size n - p) }
+-- what an operand divides by, as the code holds it
+abbrev pub divisorOperand : Operand → Divisor
+divisorOperand Unsupported = Unbounded
+divisorOperand Nan = Unbounded
+divisorOperand (Infinite n) = Unbounded
+divisorOperand (Zero n) = Unbounded
+divisorOperand (Finite u) = By u
 
--- what can be packed: a leading one at bit 63, no exponent below the smallest place, and none past the format's range
-pub record Packable (s : ℤ) (limit : ℕ) (u : Unpacked) : Type 0 where
+-- the value of an unpacked operand, of any operand, and what is divided by
+abbrev pub valueIn : ℤ → Unpacked → Value
+valueIn s u = record { negative = u .negative; count = countIn s (u .significand) (u .exponent) }
+
+abbrev pub valueOperand : ℤ → Operand → Value
+valueOperand s o = dividendOf (classIn s o)
+
+abbrev pub divisorIn : ℤ → Divisor → division.Divisor
+divisorIn s Unbounded = division.unbounded
+divisorIn s (By u) = division.by (valueIn s u .count)
+
+-- an operand as `formats` unpacks it: a leading one at bit 63, and an exponent that is within every format's range
+pub record Ready (u : Unpacked) : Type 0 where
   pub top : 2 ^ 63 ≤ u .significand
   pub word : u .significand < 2 ^ 64
-  pub above : T (leZ s (u .exponent))
-  pub range : placeIn s (u .exponent) < limit
+  pub small : mag (u .exponent) < 2 ^ 17
 
-abbrev pub PackableOperand : ℤ → ℕ → Operand → Type 0
-PackableOperand s limit Unsupported = Unit {0}
-PackableOperand s limit Nan = Unit {0}
-PackableOperand s limit (Infinite n) = Unit {0}
-PackableOperand s limit (Zero n) = Unit {0}
-PackableOperand s limit (Finite u) = Packable s limit u
+-- u is the value v, where the smallest place is 2 ^ s
+pub record Unpacks (s : ℤ) (v : Value) (u : Unpacked) : Type 0 where
+  pub some : 0 < v .count
+  pub digits : Digits 64 (v .count)
+  pub is : u ≡ unpackedOf s v

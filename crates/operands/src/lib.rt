@@ -1,10 +1,10 @@
 // What a pattern stands for, as every other crate works on it.
 ghost use mathlib.Core.Path.{_≡_};
-ghost use Prim.Native.Nat.{_+_, _<_, _≤_, _^_};
+ghost use Prim.Native.Nat.{_+_, _<_, _^_};
 ghost use lib.Dec.{T};
 ghost use lib.IntN.{pos, _+ℤ_};
 ghost use lib.Signed.{mag, leZ};
-ghost use Rattle.operands.specs.Operand.{normalOf, placeIn, Packable, trimmedOf, countIn};
+ghost use Rattle.operands.specs.Operand.{normalOf, placeIn, divisorOperand};
 
 // A finite value that is not zero: its significand with the leading one at bit 63, and the exponent of that one.
 pub struct Unpacked {
@@ -60,24 +60,18 @@ pub fn place_of(exponent: i32, smallest: i32) -> u32
     (exponent - smallest) as u32
 }
 
-// The leading digits of a value, as many as the precision, and how many lie below them.
-pub struct Trimmed {
-    pub dropped: u32,
-    pub significand: u64,
+// What an operand is divided by. An infinite divisor takes nothing off.
+pub enum Divisor {
+    Unbounded,
+    By(Unpacked),
 }
 
-pub fn trim(value: Unpacked, precision: u32, smallest: i32) -> Trimmed
-    requires { ⌜ Packable smallest (2 ^ 20) value × (mag smallest < 2 ^ 18) × (1 ≤ precision) × (precision ≤ 64) ⌝ }
-    ensures { λ r. ⌜ r ≡ trimmedOf precision (countIn smallest (value .significand) (value .exponent)) ⌝ }
+// The divisor that an operand is; one that is refused as a divisor is not looked at.
+pub fn divisor_of(y: Operand) -> Divisor
+    ensures { λ r. ⌜ r ≡ divisorOperand y ⌝ }
 {
-    let place = place_of(value.exponent, smallest);
-    let kept = if place < precision {
-        place
-    } else {
-        precision - 1
+    let Operand::Finite(value) = y else {
+        return Divisor::Unbounded;
     };
-    Trimmed {
-        dropped: place - kept,
-        significand: value.significand >> (63 - kept),
-    }
+    Divisor::By(value)
 }

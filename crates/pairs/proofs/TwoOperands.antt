@@ -18,7 +18,8 @@ use Rattle.digits.proofs.Tests.{clash}
 use Rattle.division.specs.Divided.{dividedOf}
 use Rattle.operands.specs.Operand.{unpackedOf}
 use Rattle.operands.specs.declared.Unpacked.{Unpacked}
-use Rattle.pairs.specs.Pair.{Ready, Unpacks, leftOf, settledOf, belowOf}
+use Rattle.operands.specs.Operand.{Ready, Unpacks}
+use Rattle.pairs.specs.Pair.{leftOf, settledOf, belowOf}
 use Rattle.laws.proofs.Gap.{sub-cases, cancel}
 use Rattle.operands.proofs.Lead.{lead, lead-word, lead-exact}
 use Rattle.pairs.proofs.Settled.{settled}

@@ -1,34 +1,20 @@
 -- How the code holds a pair of operands and what is left of one. Nothing to believe: these only name the code's own values.
-use Prim.Native.Nat.{ℕ, _+_, _-_, _%_, _^_, _≤_, _<_}
-use mathlib.Core.Path.{_≡_}
+use Prim.Native.Nat.{ℕ, _+_, _-_, _%_, _^_}
 use mathlib.Core.Bool.{Bool, not, cond, _&&_}
 use lib.Dec.{ltb}
 use lib.IntN.{ℤ, negsuc}
-use lib.Signed.{mag, ltZ}
-use Rattle.digits.specs.Digits.{Digits}
-use Rattle.definitions.specs.Class.{Value, finite}
+use lib.Signed.{ltZ}
+use Rattle.definitions.specs.Class.{finite}
 use Rattle.definitions.specs.Division.{Outcome, roundsUp}
 use Rattle.definitions.specs.declared.Kind.{Kind}
 use Rattle.definitions.specs.declared.Kind.the-variants.{Truncated, Nearest}
 use Rattle.division.specs.declared.Divided.{Divided}
 use Rattle.operands.specs.declared.Unpacked.{Unpacked}
 use Rattle.operands.specs.declared.Operand.the-variants.{Finite}
-use Rattle.operands.specs.Operand.{unpackedOf, operandOf, normalOf}
+use Rattle.operands.specs.Operand.{operandOf, normalOf}
 use Rattle.pairs.specs.declared.Left.{Left}
 
--- an operand as `formats` unpacks it: a leading one at bit 63, and an exponent that is within every format's range
-pub record Ready (u : Unpacked) : Type 0 where
-  pub top : 2 ^ 63 ≤ u .significand
-  pub word : u .significand < 2 ^ 64
-  pub small : mag (u .exponent) < 2 ^ 17
-
--- u is the value v, where the smallest place is 2 ^ s
-pub record Unpacks (s : ℤ) (v : Value) (u : Unpacked) : Type 0 where
-  pub some : 0 < v .count
-  pub digits : Digits 64 (v .count)
-  pub is : u ≡ unpackedOf s v
-
--- what a reply is, on its way
+-- what an outcome is, on its way
 abbrev pub leftOf : ℤ → Outcome → Left
 leftOf s r = record { value = operandOf s (finite (r .value)); quotient = r .whole % 2 ^ 32 }
 

@@ -12,7 +12,9 @@ ghost use lib.IntN.{ℤ, _-ℤ_};
 ghost use lib.Signed.{mag};
 ghost use Rattle.definitions.specs.Class.{Value};
 ghost use Rattle.definitions.specs.Division.{roundsUp, finishBy};
-ghost use Rattle.pairs.specs.Pair.{Ready, Unpacks, leftOf, settledOf, belowOf};
+ghost use Rattle.definitions.specs.Remainder.{quotientBits};
+ghost use Rattle.operands.specs.Operand.{Ready, Unpacks};
+ghost use Rattle.pairs.specs.Pair.{leftOf, settledOf, belowOf};
 
 // What is left of a dividend, and the low 32 bits of the quotient that was taken off.
 pub struct Left {
@@ -90,15 +92,23 @@ fn settle_below(kind: Kind, x: Unpacked, y: Unpacked, d: i32) -> Left
     }
 }
 
-// The remainder of the kind, finished.
-pub fn finish_pair(kind: Kind, x: Unpacked, y: Unpacked) -> Left
-    requires { ⌜ Ready x × Ready y ⌝ }
+// The remainder of the kind, finished. `d` is the gap.
+pub fn finish_pair(kind: Kind, x: Unpacked, y: Unpacked, d: i32) -> Left
+    requires { ⌜ Ready x × Ready y × (d ≡ x .exponent -ℤ y .exponent) ⌝ }
     ensures { λ r. ⌜ ((s : ℤ) (v w : Value) → Unpacks s v x → Unpacks s w y → r ≡ leftOf s (finishBy kind (w .count) v)) ⌝ }
 {
-    let d = gap(x, y);
     if d < 0 {
         return settle_below(kind, x, y, d);
     }
     let left = divide(x.significand, y.significand, d as u32);
     settle(kind, x.negative, left, y.significand, y.exponent)
+}
+
+// How many values of the quotient an answer tells apart.
+const QUOTIENT_MODULUS: u32 = 8;
+
+pub fn quotient_bits(quotient: u32) -> u32
+    ensures { λ r. ⌜ r ≡ quotientBits quotient ⌝ }
+{
+    quotient % QUOTIENT_MODULUS
 }

@@ -2,6 +2,7 @@
 // unpacks them.
 use definitions::Kind;
 use division::divide;
+use operands::Divisor;
 use operands::Operand;
 use operands::Unpacked;
 use operands::power_of_two;
@@ -15,10 +16,13 @@ ghost use Prim.Native.Nat.{_*_, _%_, _-_, _^_};
 ghost use lib.IntN.{pos, natAbs, _-ℤ_};
 ghost use lib.Signed.{ltZ};
 ghost use Rattle.definitions.specs.Format.{x87};
-ghost use Rattle.definitions.specs.Steps.{cutAt, stepBy, usedSize};
+ghost use Rattle.definitions.specs.Steps.{cutAt, stepBy, step, usedSize};
+ghost use Rattle.operands.specs.Operand.{valueIn, valueOperand, divisorIn};
+ghost use Rattle.operands.specs.declared.Operand.the-variants.{Finite};
+ghost use Rattle.formats.specs.Stands.{StandsValue, StandsDivisor};
 ghost use Rattle.definitions.specs.Reports.{sized};
 ghost use Rattle.pairs.specs.Pair.{leftOf};
-ghost use Rattle.partial.specs.Stands.{Stands, StandsOperand, valueIn, valueOperand, steppedOf, finishedOf};
+ghost use Rattle.partial.specs.Stepped.{steppedOf};
 
 // What a step comes to: whether it finished, and what is left.
 pub struct Stepped {
@@ -38,8 +42,8 @@ fn shifted(quotient: u32, places: u32) -> u32
 
 // A partial step: `size` places of the quotient are taken, and both kinds cut.
 fn cut_pair(x: Unpacked, y: Unpacked, size: u32, d: i32) -> Left
-    requires { ⌜ Stands x × Stands y × (sized size ≡ true) × (d ≡ x .exponent -ℤ y .exponent) × (ltZ d (pos 64) ≡ false) ⌝ }
-    ensures { λ r. ⌜ r ≡ leftOf (x87 .smallest) (cutAt (natAbs d - usedSize d size) (valueIn y .count) (valueIn x)) ⌝ }
+    requires { ⌜ StandsValue x87 (Finite x) × StandsValue x87 (Finite y) × (sized size ≡ true) × (d ≡ x .exponent -ℤ y .exponent) × (ltZ d (pos 64) ≡ false) ⌝ }
+    ensures { λ r. ⌜ r ≡ leftOf (x87 .smallest) (cutAt (natAbs d - usedSize d size) (valueIn (x87 .smallest) y .count) (valueIn (x87 .smallest) x)) ⌝ }
 {
     let divided = divide(x.significand, y.significand, size);
     let left = settle(
@@ -57,14 +61,14 @@ fn cut_pair(x: Unpacked, y: Unpacked, size: u32, d: i32) -> Left
 }
 
 fn step_pair(kind: Kind, x: Unpacked, y: Unpacked, size: u32) -> Stepped
-    requires { ⌜ Stands x × Stands y × (sized size ≡ true) ⌝ }
-    ensures { λ r. ⌜ r ≡ steppedOf (stepBy kind size (valueIn y .count) (valueIn x)) ⌝ }
+    requires { ⌜ StandsValue x87 (Finite x) × StandsValue x87 (Finite y) × (sized size ≡ true) ⌝ }
+    ensures { λ r. ⌜ r ≡ steppedOf (stepBy kind size (valueIn (x87 .smallest) y .count) (valueIn (x87 .smallest) x)) ⌝ }
 {
     let d = gap(x, y);
     if d < 64 {
         Stepped {
             done: true,
-            left: finish_pair(kind, x, y),
+            left: finish_pair(kind, x, y, d),
         }
     } else {
         Stepped {
@@ -74,26 +78,28 @@ fn step_pair(kind: Kind, x: Unpacked, y: Unpacked, size: u32) -> Stepped
     }
 }
 
-// A step that takes nothing off: the value is what it was.
-pub fn finished(value: Operand) -> Stepped
-    ensures { λ r. ⌜ r ≡ finishedOf value ⌝ }
+// A zero, and a value by an infinite divisor, finish as they are.
+pub fn step_value(kind: Kind, x: Operand, y: Divisor, size: u32) -> Stepped
+    requires { ⌜ StandsValue x87 x × StandsDivisor x87 y × (sized size ≡ true) ⌝ }
+    ensures { λ r. ⌜ r ≡ steppedOf (step kind size (divisorIn (x87 .smallest) y) (valueOperand (x87 .smallest) x)) ⌝ }
 {
-    Stepped {
-        done: true,
-        left: Left { value, quotient: 0 },
-    }
-}
-
-// A zero finishes as it is. What is no finite value does not come here.
-pub fn step_value(kind: Kind, x: Operand, y: Unpacked, size: u32) -> Stepped
-    requires { ⌜ StandsOperand x × Stands y × (sized size ≡ true) ⌝ }
-    ensures { λ r. ⌜ r ≡ steppedOf (stepBy kind size (valueIn y .count) (valueOperand x)) ⌝ }
-{
-    match x {
-        Operand::Finite(a) => step_pair(kind, a, y, size),
-        Operand::Unsupported => finished(x),
-        Operand::Nan => finished(x),
-        Operand::Infinite(_) => finished(x),
-        Operand::Zero(_) => finished(x),
-    }
+    let Operand::Finite(a) = x else {
+        return Stepped {
+            done: true,
+            left: Left {
+                value: x,
+                quotient: 0,
+            },
+        };
+    };
+    let Divisor::By(b) = y else {
+        return Stepped {
+            done: true,
+            left: Left {
+                value: x,
+                quotient: 0,
+            },
+        };
+    };
+    step_pair(kind, a, b, size)
 }

@@ -1,4 +1,3 @@
 // The remainder in one call: truncated, as C's fmod, and nearest, as IEEE 754's remainder, for all four formats.
-pub mod examine;
+pub mod divided;
 pub mod patterns;
-pub mod refusal;

@@ -1,64 +1,66 @@
 // A pattern split into a significand with magnitude from 1 to below 2 and a signed exponent.
-use crate::operand::SplitOperand;
-use crate::operand::split_operand;
-use definitions::Extended;
+use definitions::Refusal;
 use definitions::SplitAnswer;
-use definitions::SplitAnswer80;
-use formats::extended::X87;
-use formats::formats::Binary16;
-use formats::formats::Binary32;
-use formats::formats::Binary64;
-use formats::interchange::Shape;
-use formats::interchange::pack;
-use formats::interchange::unpack;
+use formats::binary::Binary16;
+use formats::binary::Binary32;
+use formats::binary::Binary64;
+use formats::pack::pack;
+use formats::shape::Shape;
+use formats::x87::X87;
+use operands::Operand;
+use operands::Unpacked;
 ghost use mathlib.Core.Path.{_≡_};
-ghost use Prim.Native.Nat.{_<_};
-ghost use Rattle.definitions.specs.Format.{binary16, binary32, binary64, x87, patterns};
-ghost use Rattle.definitions.specs.Scale.{splitReport};
-ghost use Rattle.definitions.specs.Answers.{splitMeaning, splitMeaning80, joined};
+ghost use Rattle.definitions.specs.Format.{binary16, binary32, binary64, x87, words};
+ghost use Rattle.definitions.specs.Scale.{splitOf, splitReport};
+ghost use Rattle.definitions.specs.Answers.{splitMeaning};
+ghost use Rattle.operands.specs.Operand.{classIn};
 ghost use Rattle.formats.specs.Shape.{formatOf, Sound};
+ghost use Rattle.formats.specs.Stands.{Stands};
 
-// Only the three functions below call it, each with its own shape.
-fn split_in(shape: Shape, x: u64) -> SplitAnswer
-    requires { ⌜ Sound shape × (x < patterns (formatOf shape)) ⌝ }
-    ensures { λ r. ⌜ splitMeaning (formatOf shape) r ≡ splitReport (formatOf shape) x ⌝ }
+// An operand of any format: 2, 3, 4, 8, then its leading one at the place of 1, and the exponent that it had.
+fn split_of(shape: Shape, x: Operand) -> SplitAnswer
+    requires { ⌜ Sound (formatOf shape) × Stands (formatOf shape) x ⌝ }
+    ensures { λ r. ⌜ splitMeaning (formatOf shape) r ≡ splitOf (formatOf shape) (classIn (shape .smallest) x) ⌝ }
 {
-    match split_operand(unpack(shape, x)) {
-        SplitOperand::Refused(why) => SplitAnswer::Refused(why),
-        SplitOperand::Parts(operand, exponent) => SplitAnswer::Parts {
-            significand: pack(shape, operand),
-            exponent,
-        },
+    match x {
+        Operand::Unsupported => SplitAnswer::Refused(Refusal::Unsupported),
+        Operand::Nan => SplitAnswer::Refused(Refusal::Nan),
+        Operand::Infinite(_) => SplitAnswer::Refused(Refusal::Infinite),
+        Operand::Zero(_) => SplitAnswer::Refused(Refusal::ZeroSplit),
+        Operand::Finite(value) => {
+            let significand = Unpacked {
+                negative: value.negative,
+                significand: value.significand,
+                exponent: 0,
+            };
+            SplitAnswer::Parts {
+                significand: pack(shape, Operand::Finite(significand)),
+                exponent: value.exponent,
+            }
+        }
     }
 }
 
 pub fn split16(x: u16) -> SplitAnswer
     ensures { λ r. ⌜ splitMeaning binary16 r ≡ splitReport binary16 x ⌝ }
 {
-    split_in(Binary16::shape(), x as u64)
+    split_of(Binary16::shape(), Binary16::of_pattern(x).operand)
 }
 
 pub fn split32(x: u32) -> SplitAnswer
     ensures { λ r. ⌜ splitMeaning binary32 r ≡ splitReport binary32 x ⌝ }
 {
-    split_in(Binary32::shape(), x as u64)
+    split_of(Binary32::shape(), Binary32::of_pattern(x).operand)
 }
 
 pub fn split64(x: u64) -> SplitAnswer
     ensures { λ r. ⌜ splitMeaning binary64 r ≡ splitReport binary64 x ⌝ }
 {
-    split_in(Binary64::shape(), x)
+    split_of(Binary64::shape(), Binary64::of_pattern(x).operand)
 }
 
-pub fn split80(x: Extended) -> SplitAnswer80
-    ensures { λ r. ⌜ splitMeaning80 r ≡ splitReport x87 (joined x) ⌝ }
+pub fn split80(x: u64, xw: u16) -> SplitAnswer
+    ensures { λ r. ⌜ splitMeaning x87 r ≡ splitReport x87 (words xw x) ⌝ }
 {
-    let operand = X87::of_pattern(x).operand;
-    match split_operand(operand) {
-        SplitOperand::Refused(why) => SplitAnswer80::Refused(why),
-        SplitOperand::Parts(operand, exponent) => SplitAnswer80::Parts {
-            significand: X87 { operand }.pattern(),
-            exponent,
-        },
-    }
+    split_of(X87::shape(), X87::of_pattern(x, xw).operand)
 }

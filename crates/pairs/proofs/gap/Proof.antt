@@ -5,7 +5,7 @@ use mir.Syntax.{w32}
 use mir.Val.{toZ, ofZ}
 use Rattle.digits.proofs.Signed.{small-back, sub-fits, sub-is}
 use Rattle.operands.specs.declared.Unpacked.{Unpacked}
-use Rattle.pairs.specs.Pair.{Ready}
+use Rattle.operands.specs.Operand.{Ready}
 use Rattle.pairs.proofs.gap.Statement.{statement}
 use Rattle.pairs.proofs.gap.Tie as tie
 

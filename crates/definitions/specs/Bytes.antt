@@ -1,0 +1,13 @@
+-- Numbers as bytes, "little-endian". Definitions only.
+use Prim.Native.Nat.{ℕ, zero, suc, _+_, _*_, _/_, _%_}
+use mathlib.Core.List.{List, [], _∷_}
+
+-- k bytes of n
+abbrev pub bytesOf : ℕ → ℕ → List ℕ
+bytesOf zero n = []
+bytesOf (suc k) n = n % 256 ∷ bytesOf k (n / 256)
+
+-- the number that bytes are
+abbrev pub ofBytes : List ℕ → ℕ
+ofBytes [] = 0
+ofBytes (b ∷ bs) = b + 256 * ofBytes bs

@@ -1,0 +1,17 @@
+-- What an operand is that the code has found not to be finite and nonzero: one of the four other cases. Assumes nothing.
+use Prim.Native.Nat.{ℕ}
+use mathlib.Core.Bool.{Bool}
+use mathlib.Core.List.{[], _∷_}
+use denote.Enum.Declared.{tagOf}
+use types.Run.{OneOf, miss}
+use Rattle.operands.specs.declared.Operand.{Operand}
+use Rattle.operands.proofs.Operand.{the-type}
+use Rattle.operands.specs.declared.Operand.the-variants.{Unsupported, Nan, Infinite, Zero, Finite}
+
+pub other-cases : (P : Operand → Type 0) → P Unsupported → P Nan → ((n : Bool) → P (Infinite n)) → ((n : Bool) → P (Zero n))
+    → (o : Operand) → OneOf (0 ∷ 1 ∷ 2 ∷ 3 ∷ []) (tagOf the-type o) → P o
+other-cases P u q i z Unsupported k = u
+other-cases P u q i z Nan k = q
+other-cases P u q i z (Infinite n) k = i n
+other-cases P u q i z (Zero n) k = z n
+other-cases P u q i z (Finite v) k = absurd (miss (0 ∷ 1 ∷ 2 ∷ 3 ∷ []) 4 tt k)

@@ -1,0 +1,75 @@
+// The remainder of operands, the same for every format: judge, divide, pack. Only crates of this repository call these, with operands as
+// `formats` unpacks them.
+use checks::Verdict;
+use checks::judge_pair;
+use definitions::Kind;
+use definitions::Pattern;
+use definitions::RemainderAnswer;
+use formats::pack::pack;
+use formats::shape::Shape;
+use operands::Divisor;
+use operands::Operand;
+use operands::divisor_of;
+use pairs::finish_pair;
+use pairs::gap;
+use pairs::quotient_bits;
+ghost use mathlib.Core.Path.{_≡_};
+ghost use Rattle.definitions.specs.Class.{finite};
+ghost use Rattle.definitions.specs.Format.{patternOf};
+ghost use Rattle.definitions.specs.Division.{finish};
+ghost use Rattle.definitions.specs.Remainder.{quotientBits, remainderOf};
+ghost use Rattle.definitions.specs.Answers.{remainderMeaning, joined};
+ghost use Rattle.operands.specs.Operand.{classIn, valueOperand, divisorIn};
+ghost use Rattle.formats.specs.Shape.{formatOf, Sound};
+ghost use Rattle.formats.specs.Stands.{Stands, StandsValue, StandsDivisor};
+
+// A remainder's pattern and its quotient bits.
+pub struct Divided {
+    pub value: Pattern,
+    pub quotient: u32,
+}
+
+// A finite value by a divisor that has been judged: a list judges its divisor once. A zero, and a value by an infinite divisor, are
+// returned as they are.
+pub fn divide_by(shape: Shape, x: Operand, y: Divisor, kind: Kind) -> Divided
+    requires { ⌜ Sound (formatOf shape) × StandsValue (formatOf shape) x × StandsDivisor (formatOf shape) y ⌝ }
+    ensures value { λ r. ⌜ joined (r .value) ≡ patternOf (formatOf shape) (finite (finish kind (divisorIn (shape .smallest) y) (valueOperand (shape .smallest) x) .value)) ⌝ }
+    ensures quotient { λ r. ⌜ r .quotient ≡ quotientBits (finish kind (divisorIn (shape .smallest) y) (valueOperand (shape .smallest) x) .whole) ⌝ }
+{
+    let Operand::Finite(a) = x else {
+        return Divided {
+            value: pack(shape, x),
+            quotient: 0,
+        };
+    };
+    let Divisor::By(b) = y else {
+        return Divided {
+            value: pack(shape, x),
+            quotient: 0,
+        };
+    };
+    let left = finish_pair(kind, a, b, gap(a, b));
+    let value = left.value;
+    Divided {
+        value: pack(shape, value),
+        quotient: quotient_bits(left.quotient),
+    }
+}
+
+// Any two operands.
+pub fn remainder_of(shape: Shape, x: Operand, y: Operand, kind: Kind) -> RemainderAnswer
+    requires { ⌜ Sound (formatOf shape) × Stands (formatOf shape) x × Stands (formatOf shape) y ⌝ }
+    ensures { λ r. ⌜ remainderMeaning (formatOf shape) r ≡ remainderOf (formatOf shape) kind (classIn (shape .smallest) x) (classIn (shape .smallest) y) ⌝ }
+{
+    match judge_pair(x, y) {
+        Verdict::Refused(why) => RemainderAnswer::Refused(why),
+        Verdict::Accepted => {
+            let divided = divide_by(shape, x, divisor_of(y), kind);
+            let value = divided.value;
+            RemainderAnswer::Finished {
+                value,
+                quotient: divided.quotient,
+            }
+        }
+    }
+}
