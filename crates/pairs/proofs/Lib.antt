@@ -2,3 +2,4 @@ pub mod Link
 pub mod Settled
 pub mod Below
 pub mod TwoOperands
+pub mod Bits
