@@ -50,7 +50,7 @@ answer-is κ (step l n) x y v w ex ey p =
 answer-is κ (run l n b) x y v w ex ey p =
     rw (ex, ey, number-finite l n v w 7 (not (Steps.run κ n b (by (w .count)) v .done)) p, cond-not)
 
--- "A refused call adds 0 to both": no steps and no quotient bits
+-- [5.3] a refused call has no steps and no quotient bits
 pub refused-adds : (κ : Kind) (y : ℕ) (c : Call) (x : ℕ) → accepted (answer κ y c x .number) ≡ false → (answer κ y c x .steps ≡ 0) × (answer κ y c x .quotient ≡ 0)
 unfolding answer stepReport runReport
 refused-adds κ y (step l n) x e = (rw e, rw e)

@@ -1,5 +1,4 @@
--- "A run that ended with 7 and is continued from its value gives, with steps and parts added (parts modulo 8), the answer of one run with
--- both budgets together": on patterns, whatever the divisor. Assumes nothing.
+-- [4.9] a run that gave 7, and one from its value, are one run with both budgets: on patterns, whatever the divisor. Assumes nothing.
 use mathlib.Core.Path.{_≡_, refl, sym, ap, _∙_}
 use mathlib.Core.Bool.{Bool, true, false, not, cond}
 use Prim.Native.Nat.{ℕ, zero, suc, _+_, _%_}

@@ -1,4 +1,4 @@
--- Demand 3, over all lists of step and run calls on x87 patterns. Assumes nothing.
+-- [5.9] the one claim over all lists of step and run calls on x87 patterns. Assumes nothing.
 use mathlib.Core.Path.{_≡_, refl, sym, ap, _∙_, subst}
 use mathlib.Core.Bool.{Bool, true, false, cond}
 use mathlib.Core.List.{List}

@@ -1,5 +1,4 @@
--- "the first dividend equals the present value plus the divisor times the sum of all whole quotient parts taken so far, each part with the
--- combined sign of its step's operands": of one step, of a run, and of chains put together. Assumes nothing.
+-- [4.10] the first dividend is the value plus the divisor times the parts: of one step, of a run, and of chains put together. Assumes nothing.
 use mathlib.Core.Path.{_≡_, sym, ap, _∙_}
 use mathlib.Core.Bool.{Bool, true, false, cond}
 use mathlib.Core.List.{List, [], _∷_, _++_}
@@ -31,7 +30,7 @@ exact-followed y x u v p q f g =
 abbrev pub ExactReply : Value → Value → Outcome → Type 0
 ExactReply y x r = Exact y x (r .value) (signed (combined (x .negative) (y .negative)) (r .whole))
 
--- "the value becomes x less QQ·2^(D−n) times y (signs as above)"
+-- [4.3] of a partial step
 pub cut-exact : (j : ℕ) (y x : Value) → ExactReply y x (cutAt j (y .count) x)
 unfolding cutAt
 cut-exact j y x =

@@ -21,7 +21,7 @@ use Rattle.chains.proofs.Outcome.{Sound, sound-none, sound-followed}
 use Rattle.chains.proofs.Run.{run-resumed, sound-run, chain-length}
 use Rattle.chains.proofs.Exact.{Exact, exact-none, exact-followed, chain-exact, parts-append}
 
--- "Each call goes on from the value the last accepted one gave, and the list ends at its first finished call", whatever answers the calls.
+-- [5.2, 5.4] whatever answers the calls
 pub listed-taken : {A : Type 0} (f : Call → A → Report A) (cs : List Call) (x : A) → Listed f x cs (taken f cs x)
 unfolding taken
 listed-taken f [] x = none

@@ -1,4 +1,4 @@
--- "Answer 7 comes exactly if nothing is refused and the chain needs more steps than the budget", on patterns. Assumes nothing.
+-- [4.8] 7 comes exactly if nothing is refused and the chain needs more steps than the budget: on patterns. Assumes nothing.
 use mathlib.Core.Path.{_≡_, refl}
 use mathlib.Core.Bool.{Bool, true, false, not, cond, _&&_, _||_}
 use mathlib.Core.List.{_++_}

@@ -74,7 +74,7 @@ step-one κ n (by m) x = step-cases (λ r. r .steps ≡ 1) κ n m x (λ e. refl)
 pub cut-size : (n m j : ℕ) → 0 < m → size (n % (m * 2 ^ j)) ≤ size m + j
 cut-size n m j h = size-le (n % (m * 2 ^ j)) (size m + j) (lt-of-lt-of-le (mod-lt n (mul-pos h (pow-pos j))) (le-of-lt (shl-lt (size m) j (size-lt m))))
 
--- "Every nonzero partial value has an exponent lower by at least n."
+-- [4.5] the exponent of a partial value that is not zero is lower by at least n
 pub step-lower : (κ : Kind) (n m : ℕ) (x : Value) → 0 < m → sized n ≡ true → step κ n (by m) x .done ≡ false
     → size (step κ n (by m) x .value .count) + n ≤ size (x .count)
 unfolding cutAt
@@ -83,7 +83,7 @@ step-lower κ n m x p z d =
     (λ e. let f = sym d ∙ step-done κ n m x ∙ e in clash (cc))
     (λ e q l j i. let b = sized-bounds n z in omega (arith, cut-size (x .count) m j p))
 
--- "A zero partial value keeps x's sign and is still partial; the next step finishes": a partial value has x's sign, and a zero dividend finishes
+-- [4.5] a partial value has the sign of x, and a zero dividend finishes
 pub step-sign : (κ : Kind) (n m : ℕ) (x : Value) → step κ n (by m) x .done ≡ false → step κ n (by m) x .value .negative ≡ x .negative
 unfolding cutAt
 step-sign κ n m x d = step-cases (λ r. r .value .negative ≡ x .negative) κ n m x (λ e. let f = sym d ∙ step-done κ n m x ∙ e in clash (cc)) (λ e q l j i. refl)

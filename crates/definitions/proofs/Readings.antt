@@ -18,6 +18,6 @@ pub long-readings-hold : allTold longReadings ≡ allPrinted longReadings
 unfolding told longReadings size gap classOf patternOf magnitude first finish step run
 long-readings-hold = refl
 
--- "House NaN: 7E00, 7FC00000, 7FF8000000000000, and x87 7FFF with C000000000000000"
+-- [2.9] the house NaNs
 pub house-nans : (houseNan binary16 ≡ 0x7E00) × (houseNan binary32 ≡ 0x7FC00000) × (houseNan binary64 ≡ 0x7FF8000000000000) × (houseNan x87 ≡ 0x7FFFC000000000000000)
 house-nans = (refl, refl, refl, refl)

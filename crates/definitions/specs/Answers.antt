@@ -18,7 +18,7 @@ use Rattle.definitions.specs.Remainder.{Remainder, refusedValue}
 use Rattle.definitions.specs.Reports.{Report}
 use Rattle.definitions.specs.Scale.{ScaleReport, SplitReport}
 
--- "The number on the slip" of each refusal
+-- [7.1] the number of each refusal
 abbrev pub refusalNumber : Refusal → ℕ
 refusalNumber why.Misfit = 9
 refusalNumber why.Missized = 6
@@ -42,7 +42,7 @@ stepsMeaning u (steps.Finished v q s) = record { number = 0; value = joined v; q
 stepsMeaning u (steps.Unfinished v q s) = record { number = u; value = joined v; quotient = q; steps = s }
 stepsMeaning u (steps.Refused w) = record { number = refusalNumber w; value = refusedValue x87; quotient = 0; steps = 0 }
 
--- "step was partial (step only)", "budget spent (run only)"
+-- [7.1] an unfinished step is 1, and an unfinished run 7
 abbrev pub stepMeaning : StepsAnswer → Report ℕ
 stepMeaning = stepsMeaning 1
 

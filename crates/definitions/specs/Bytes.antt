@@ -1,4 +1,4 @@
--- Numbers as bytes, "little-endian". Definitions only.
+-- Numbers as bytes, the lowest first. Definitions only.
 use Prim.Native.Nat.{ℕ, zero, suc, _+_, _*_, _/_, _%_}
 use mathlib.Core.List.{List, [], _∷_}
 

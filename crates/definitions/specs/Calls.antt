@@ -15,7 +15,7 @@ use Rattle.definitions.specs.Remainder.{remainder, quotientModulus}
 use Rattle.definitions.specs.Steps.{Link, chain, partsSum, mostSteps}
 use Rattle.definitions.specs.Reports.{Report, Lent, nothing, stepReport, runReport}
 
--- "Demand 3's lists hold step and run calls ..., each call with its size, each run with its budget."
+-- [5.1] a call of a list
 pub data Call : Type 0 where
   step : (lent : Lent) (size : ℕ) → Call
   run : (lent : Lent) (size budget : ℕ) → Call
@@ -32,14 +32,13 @@ pub record Taken (A : Type 0) : Type 0 where
   pub handed : A
   pub report : Report A
 
--- "A refused call leaves that value, and nothing else changes it. A list ends at its first 0"
+-- [5.3, 5.4] after a refused call the list goes on from the same value, after an answer from its value, and it ends at a 0
 abbrev pub goOn : {A : Type 0} → Bool → Bool → Taken A → (A → List (Taken A)) → List (Taken A)
 goOn true true t rest = t ∷ []
 goOn true false t rest = t ∷ rest (t .report .value)
 goOn false b t rest = rest (t .handed)
 
--- "The first call is handed the first dividend, each later one the value of the last accepted call before it, or the first dividend if
--- there was none." The accepted calls of a list, in order, where `f` answers each call.
+-- [5.2] the accepted calls of a list, in order, where `f` answers each call
 unfoldable pub taken : {A : Type 0} → (Call → A → Report A) → List Call → A → List (Taken A)
 taken f [] x = []
 taken f (c ∷ cs) x =
@@ -55,12 +54,12 @@ unfoldable pub lastNumber : {A : Type 0} → ℕ → List (Taken A) → ℕ
 lastNumber n [] = n
 lastNumber n (t ∷ ts) = lastNumber (t .report .number) ts
 
--- "it has finished"
+-- [5.4] a list has finished
 unfoldable pub finished : {A : Type 0} → List (Taken A) → Bool
 finished [] = false
 finished (t ∷ ts) = eqb (t .report .number) 0 || finished ts
 
--- "Its steps and quotient bits are those its calls report, added up, the bits modulo 8."
+-- [5.5] its steps and quotient bits
 unfoldable pub totalSteps : {A : Type 0} → List (Taken A) → ℕ
 totalSteps [] = 0
 totalSteps (t ∷ ts) = t .report .steps + totalSteps ts
@@ -69,7 +68,7 @@ unfoldable pub totalQuotient : {A : Type 0} → List (Taken A) → ℕ
 totalQuotient [] = 0
 totalQuotient (t ∷ ts) = (t .report .quotient + totalQuotient ts) % quotientModulus
 
--- "the true sum of the accepted calls' budgets"; a step counts as a budget of one
+-- the sum of the budgets of its accepted calls, a step being a budget of one
 abbrev pub budgetOf : Call → ℕ
 budgetOf (step l n) = 1
 budgetOf (run l n b) = b
@@ -78,7 +77,7 @@ unfoldable pub totalBudget : {A : Type 0} → List (Taken A) → ℕ
 totalBudget [] = 0
 totalBudget (t ∷ ts) = budgetOf (t .call) + totalBudget ts
 
--- "all accepted calls are runs of one size"
+-- [5.8] all accepted calls are runs of the size n
 abbrev pub IsRun : ℕ → Call → Type 0
 IsRun n (step l k) = ⊥
 IsRun n (run l k b) = k ≡ n
@@ -87,7 +86,7 @@ abbrev pub Runs : {A : Type 0} → ℕ → List (Taken A) → Type 0
 Runs n [] = Unit {0}
 Runs n (t ∷ ts) = IsRun n (t .call) × Runs n ts
 
--- "lists with at least one accepted call"
+-- a list of accepted calls that is not empty
 abbrev pub Some : {A : Type 0} → List A → Type 0
 Some [] = ⊥
 Some (a ∷ l) = Unit {0}
@@ -116,19 +115,19 @@ listChain v κ d (t ∷ ts) = callChain κ d (t .call) (v (t .handed)) ++ listCh
 abbrev pub valueAt : ℕ → Value
 valueAt x = dividendOf (classOf x87 x)
 
--- Demand 3, of the list cs of calls from the dividend x by the divisor y: v and w are their values, and ts the list's accepted calls.
+-- [5.9] what is claimed of every list cs of calls from the dividend x by the divisor y: v and w are their values, and ts the accepted calls
 pub record EveryList (κ : Kind) (x y : ℕ) (v w : Value) (cs : List Call) (ts : List (Taken ℕ)) : Type 0 where
-  -- "Each call goes on from the value the last accepted one gave, and the list ends at its first finished call."
+  -- [5.2, 5.3, 5.4] as four rules
   pub listed : Listed (answer κ y) x cs ts
-  -- "says how many steps it took. That number is the number of steps in the defined chain."
+  -- [4.6] the steps are those of the chain
   pub counted : totalSteps ts ≡ length (listChain valueAt κ (by (w .count)) ts)
-  -- "It takes at most one step if D is below 64, else at most D/32 rounded down, and once it has taken that many it has finished."
+  -- [5.6]
   pub bound : totalSteps ts ≤ mostSteps (gap (v .count) (w .count))
   pub ends : mostSteps (gap (v .count) (w .count)) ≤ totalSteps ts → finished ts ≡ true
-  -- "its last remainder is the one-call remainder of that dividend ..., bit for bit, and the quotient bits ... add up, modulo 8"
+  -- [5.7]
   pub whole : finished ts ≡ true → remainder x87 κ x y ≡ record { number = 0; value = lastValue x ts; quotient = totalQuotient ts }
-  -- "the first dividend equals the present value plus the divisor times the sum of all whole quotient parts taken so far"
+  -- [4.10]
   pub exact : valueOf v ≡ valueOf (valueAt (lastValue x ts)) +ℤ valueOf w *ℤ partsSum w (listChain valueAt κ (by (w .count)) ts)
-  -- "if all accepted calls are runs of one size, then the last value and number, and the added steps and quotient bits, are those of one run"
+  -- [5.8]
   pub one : (n : ℕ) → Runs n ts → Some ts → answer κ y (run nothing n (totalBudget ts)) x
       ≡ record { number = lastNumber 7 ts; value = lastValue x ts; quotient = totalQuotient ts; steps = totalSteps ts }

@@ -6,12 +6,12 @@ use lib.Dec.{eqb}
 use lib.IntN.{ℤ, pos, negℤ, _-ℤ_}
 use lib.Ieee.{size}
 
--- "A finite value is sign × s × 2^k with s a whole number": the sign, and the count of the smallest place
+-- [2.1] a finite value: its sign, and its count of the smallest place
 pub record Value : Type 0 where
   pub negative : Bool
   pub count : ℕ
 
--- "Every bit pattern is taken": what it stands for
+-- [1.2] what any bit pattern stands for
 pub data Class : Type 0 where
   unsupported nan : Class
   infinite : Bool → Class
@@ -25,11 +25,11 @@ signed false n = pos n
 abbrev pub valueOf : Value → ℤ
 valueOf v = signed (v .negative) (v .count)
 
--- "x's and y's combined sign"
+-- [3.3] the sign that two values have together
 abbrev pub combined : Bool → Bool → Bool
 combined s t = not (Bool·beq s t)
 
--- "The gap D is the dividend's exponent less the divisor's, a signed number. For a zero dividend D is taken as 0."
+-- [2.8] the gap D of the counts n and m
 -- `size n` is how many binary digits n has, so the leading one of n is size n - 1 places above the smallest place, which cancels.
 unfoldable pub gap : ℕ → ℕ → ℤ
 gap n m = cond (eqb n 0) (pos 0) (pos (size n) -ℤ pos (size m))

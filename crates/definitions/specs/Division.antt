@@ -18,12 +18,12 @@ pub data Divisor : Type 0 where
   unbounded : Divisor
   by : ℕ → Divisor
 
--- "Nearest: Q is |x|/|y| rounded to the nearest whole number, a half going to the even one": whether q with the left-over r goes up
+-- [3.2] whether the quotient q with the left-over r goes up
 abbrev pub roundsUp : Kind → ℕ → ℕ → ℕ → Bool
 roundsUp Truncated q r m = false
 roundsUp Nearest q r m = ltb m (2 * r) || (eqb m (2 * r) && eqb (q % 2) 1)
 
--- "Truncated: Q is |x|/|y| cut to a whole number." "The magnitude rule is x − Q·y with Q given x's and y's combined sign." "A zero result has x's sign."
+-- [3.1, 3.3, 3.5] the remainder by the count m: where the quotient goes up, what is missing to m, with the other sign
 unfoldable pub finishBy : Kind → ℕ → Value → Outcome
 finishBy κ m x =
     let q = x .count / m in
@@ -36,7 +36,7 @@ finishBy κ m x =
       steps = 1;
     }
 
--- "If y is infinite and x finite, the result is x with quotient bits 0, in one step."
+-- [3.7] an infinite divisor leaves x
 unfoldable pub finish : Kind → Divisor → Value → Outcome
 unfolding finishBy
 finish κ unbounded x = record { done = true; value = x; whole = 0; steps = 1 }

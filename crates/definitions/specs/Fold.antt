@@ -10,15 +10,15 @@ use Rattle.definitions.specs.Numbers.{Check, check, first, isNan, isInfi
 use Rattle.definitions.specs.declared.Kind.{Kind}
 use Rattle.definitions.specs.Remainder.{remainder}
 
--- "A NaN divisor is 3 and a zero one 5, for the whole list"
+-- [8.2] what a divisor is refused for, for the whole list
 abbrev pub dividingList : Class → List Check
 dividingList y = check 3 (isNan y) ∷ check 5 (isZero y) ∷ []
 
--- "lists of unequal length" come first
+-- [8.1] the lengths are looked at before it
 abbrev pub folding : ℕ → ℕ → ℕ → Class → List Check
 folding xs results quotients y = check 9 (not (eqb results xs && eqb quotients xs)) ∷ dividingList y
 
--- "a NaN or infinite dividend gets the house NaN and byte 255"
+-- [8.4] a dividend that is marked
 abbrev pub bad : ℕ → Bool
 bad x = isNan (classOf binary64 x) || isInfinite (classOf binary64 x)
 
@@ -28,7 +28,7 @@ resultAt κ y x = remainder binary64 κ x y .value
 unfoldable pub byteAt : Kind → ℕ → ℕ → ℕ
 byteAt κ y x = cond (bad x) 255 (remainder binary64 κ x y .quotient)
 
--- "the answer ... counts those places"
+-- [8.4] how many are
 unfoldable pub badPlaces : List ℕ → ℕ
 badPlaces [] = 0
 badPlaces (x ∷ xs) = cond (bad x) 1 0 + badPlaces xs

@@ -15,7 +15,7 @@ use Rattle.definitions.specs.declared.Layout.the-variants.{Hidden, Expli
 abbrev pub words : ℕ → ℕ → ℕ
 words high low = high * 2 ^ 64 + low
 
--- "Each format has its own precision, bias and smallest place, and these are named once, with the format." The smallest place is 2 ^ smallest.
+-- [2.2] what a format is named by. The smallest place is 2 ^ smallest.
 pub record Format : Type 0 where
   pub precision : ℕ
   pub bias : ℕ
@@ -61,15 +61,13 @@ signWeight f = fieldWeight f * (topField f + 1)
 abbrev pub patterns : Format → ℕ
 patterns f = 2 * signWeight f
 
--- What a sign, an exponent field e and the stored significand s stand for, in an interchange format.
--- Field 0 has no leading digit and counts as field 1.
+-- [2.3] what a sign, an exponent field e and the stored significand s stand for, in an interchange format
 abbrev pub interchangeClass : Format → Bool → ℕ → ℕ → Class
 interchangeClass f n e s =
     cond (eqb e (topField f)) (cond (eqb s 0) (infinite n) nan)
     (finite (record { negative = n; count = cond (eqb e 0) s ((leading f + s) * 2 ^ (e - 1)) }))
 
--- "e = 0, J = 0: zero or denormal, s × 2^-16445. e from 1 to 32766, J = 1: s × 2^(e-16446). e = 32767, J = 1: infinity if the other
--- 63 bits are zero, else NaN. All other patterns are unsupported, e = 0 with J = 1 among them."
+-- [2.4, 2.5, 2.6] the same with an explicit leading digit J
 abbrev pub extendedClass : Format → Bool → ℕ → ℕ → Class
 extendedClass f n e s =
     let J = leb (leading f) s in
@@ -98,7 +96,7 @@ magnitude f n = let e = size n - f .precision in body f (f .layout) e (n / 2 ^ e
 abbrev pub withSign : Format → Bool → ℕ → ℕ
 withSign f n b = cond n (signWeight f) 0 + b
 
--- "House NaN: 7E00, 7FC00000, 7FF8000000000000, and x87 7FFF with C000000000000000"
+-- [2.9] the house NaN
 abbrev pub quiet : Layout → ℕ → ℕ
 quiet Hidden h = h / 2
 quiet Explicit h = h + h / 2
@@ -120,7 +118,7 @@ patternOf f nan = houseNan f
 patternOf f (infinite n) = withSign f n (infinityBody f)
 patternOf f (finite v) = withSign f (v .negative) (magnitude f (v .count))
 
--- "The exponent of a nonzero value is the place of its leading one, also for a denormal"
+-- [2.7] the exponent of a count that is not zero
 abbrev pub exponentOf : Format → ℕ → ℤ
 exponentOf f n = f .smallest +ℤ pos (size n - 1)
 
@@ -128,7 +126,7 @@ exponentOf f n = f .smallest +ℤ pos (size n - 1)
 abbrev pub reach : Format → ℕ
 reach f = 2 * f .bias + f .precision - 1
 
--- "largest gap D": the largest finite value by the smallest one
+-- [2.2] the largest gap: the largest finite value by the smallest one
 abbrev pub largestGap : Format → ℕ
 largestGap f = reach f - 1
 

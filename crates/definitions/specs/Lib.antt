@@ -1,4 +1,4 @@
--- What a reader has to believe: document 01, definition by definition, in its order, with its table of numbers before what gives them.
+-- What a reader has to believe: docs/SCOPE.md, definition by definition. `[4.2]` in a comment is its section 4, sentence 2.
 pub mod Class
 pub mod Format
 pub mod Numbers

@@ -8,7 +8,7 @@ use Rattle.definitions.specs.Format.{binary64}
 use Rattle.definitions.specs.declared.Kind.the-variants.{Truncated}
 use Rattle.definitions.specs.Remainder.{Remainder, remainder}
 
--- "16 hex digits (either case)"
+-- [10.1] a hex digit in either case
 abbrev pub isHex : ℕ → Bool
 isHex c = (leb 48 c && leb c 57) || (leb 65 c && leb c 70) || (leb 97 c && leb c 102)
 
@@ -24,7 +24,7 @@ abbrev pub hexValue : ℕ → List ℕ → ℕ
 hexValue n [] = n
 hexValue n (c ∷ cs) = hexValue (n * 16 + digitOf c) cs
 
--- "16 hex digits (either case), a space, 16 hex digits"
+-- [10.1] 16 of them, a space, 16 of them
 unfoldable pub wellFormed : List ℕ → Bool
 wellFormed line = eqb (length line) 33 && allHex (take 16 line) && eqb (getD line 16 0) 32 && allHex (drop 17 line)
 
@@ -37,11 +37,11 @@ abbrev pub hexDigits : ℕ → ℕ → List ℕ
 hexDigits zero n = []
 hexDigits (suc k) n = upperHex (n / 16 ^ k % 16) ∷ hexDigits k n
 
--- "the truncated remainder in upper case, quotient bits and answer number. Single spaces stand between them."
+-- [10.2] the line of an answer
 unfoldable pub answerLine : Remainder → List ℕ
 answerLine r = hexDigits 16 (r .value) ++ (32 ∷ (48 + r .quotient) ∷ 32 ∷ (48 + r .number) ∷ [])
 
--- "Any other line gives `bad line`."
+-- [10.3] the line of any other
 abbrev pub badLine : List ℕ
 badLine = 98 ∷ 97 ∷ 100 ∷ 32 ∷ 108 ∷ 105 ∷ 110 ∷ 101 ∷ []
 
@@ -54,7 +54,7 @@ lineFor line = let a = answerLine (remainder binary64 Truncated (hexValue 0 (tak
 abbrev pub newline : ℕ
 newline = 10
 
--- "Every output line ends with a newline."
+-- [10.4] a line that is written
 abbrev pub answered : List ℕ → List ℕ
 answered line = lineFor line ++ (newline ∷ [])
 
@@ -74,7 +74,7 @@ abbrev pub begun : List ℕ → List ℕ → List ℕ
 begun line [] = line
 begun line (c ∷ cs) = begun (begunAt line c) cs
 
--- "A last line needs no newline; empty input writes nothing."
+-- [10.4, 10.5] what is written for a last line without its newline
 abbrev pub lastWritten : List ℕ → List ℕ
 lastWritten [] = []
 lastWritten (c ∷ cs) = answered (c ∷ cs)

@@ -5,7 +5,7 @@ use mathlib.Core.List.{List, [], _∷_}
 use lib.Dec.{eqb}
 use Rattle.definitions.specs.Class.{Class, unsupported, nan, infinite, finite}
 
--- "The number on the slip" and when it is given. Every operation lists its own checks.
+-- [7.1] a number, and when it is given. Every operation lists its own checks.
 pub record Check : Type 0 where
   pub number : ℕ
   pub test : Bool
@@ -13,12 +13,12 @@ pub record Check : Type 0 where
 abbrev pub check : ℕ → Bool → Check
 check n t = record { number = n; test = t }
 
--- "where several apply, the first in a fixed order"; 0 where none does
+-- [7.3] the first that applies; 0 where none does
 unfoldable pub first : List Check → ℕ
 first [] = 0
 first (c ∷ cs) = cond (c .test) (c .number) (first cs)
 
--- "Order of checks: 9, 6, 2, 3, 4, 5, 8, then 7", and last a step that was partial
+-- [7.3] the order of all checks; every list of them follows it (laws, `in-order`)
 abbrev pub fixedOrder : List ℕ
 fixedOrder = 9 ∷ 6 ∷ 2 ∷ 3 ∷ 4 ∷ 5 ∷ 8 ∷ 7 ∷ 1 ∷ []
 
@@ -28,7 +28,7 @@ follows [] ns = true
 follows (c ∷ cs) [] = false
 follows (c ∷ cs) (n ∷ ns) = cond (eqb (c .number) n) (follows cs ns) (follows (c ∷ cs) ns)
 
--- "0, 1 and 7 are answers, the rest refusals."
+-- [7.2] answers and refusals
 abbrev pub accepted : ℕ → Bool
 accepted n = eqb n 0 || eqb n 1 || eqb n 7
 
@@ -57,6 +57,6 @@ isZero nan = false
 isZero (infinite n) = false
 isZero (finite v) = eqb (v .count) 0
 
--- the checks of an operation that divides x by y: "an x87 operand is unsupported", "an operand is NaN", "dividend infinite", "divisor zero"
+-- the checks of whatever divides x by y: one of them unsupported, one of them a NaN, the dividend infinite, the divisor zero
 abbrev pub dividing : Class → Class → List Check
 dividing x y = check 2 (isUnsupported x || isUnsupported y) ∷ check 3 (isNan x || isNan y) ∷ check 4 (isInfinite x) ∷ check 5 (isZero y) ∷ []

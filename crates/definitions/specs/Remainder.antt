@@ -7,7 +7,7 @@ use Rattle.definitions.specs.Numbers.{first, accepted, dividing}
 use Rattle.definitions.specs.declared.Kind.{Kind}
 use Rattle.definitions.specs.Division.{Outcome, finish, dividendOf, divisorOf}
 
--- "Quotient bits are those of |Q| modulo 8."
+-- [3.6] how many quotients an answer tells apart: here, and nowhere else in the definitions
 abbrev pub quotientModulus : ℕ
 quotientModulus = 8
 

@@ -30,7 +30,7 @@ abbrev pub fitting : Lent → Bool
 fitting nothing = true
 fitting (block l) = eqb l blockLength
 
--- "size outside 32 to 63"
+-- [4.1] a right size
 abbrev pub sized : ℕ → Bool
 sized n = leb 32 n && leb n 63
 
@@ -45,7 +45,7 @@ stepping l n x y partial = calling l n ++ (dividing x y ++ (check 1 partial ∷ 
 abbrev pub running : Lent → ℕ → Class → Class → Bool → List Check
 running l n x y spent = calling l n ++ (dividing x y ++ (check 7 spent ∷ []))
 
--- "Under 2 to 6 and 8, quotient bits, steps and exponent are 0"
+-- [7.5] a refusal shows the house NaN and has no quotient bits and no steps
 abbrev pub reportOf : ℕ → Outcome → Report ℕ
 reportOf n r =
     record {
@@ -61,7 +61,7 @@ stepReply κ n x y = step κ n (divisorOf y) (dividendOf x)
 abbrev runReply : Kind → ℕ → ℕ → Class → Class → Outcome
 runReply κ n b x y = run κ n b (divisorOf y) (dividendOf x)
 
--- a step of size n on the patterns x and y
+-- [4.1] a step of size n on the patterns x and y
 unfoldable pub stepReport : Lent → Kind → ℕ → ℕ → ℕ → Report ℕ
 unfolding first
 stepReport l κ n x y =
@@ -70,7 +70,7 @@ stepReport l κ n x y =
     let r = stepReply κ n a b in
     reportOf (first (stepping l n a b (not (r .done)))) r
 
--- a run of size n with a budget. "Answer 7 comes exactly if nothing is refused and the chain needs more steps than the budget."
+-- [4.6, 4.8] a run of size n with a budget
 unfoldable pub runReport : Lent → Kind → ℕ → ℕ → ℕ → ℕ → Report ℕ
 unfolding first
 runReport l κ n budget x y =

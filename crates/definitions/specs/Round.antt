@@ -1,4 +1,4 @@
--- The cut of a whole number by a number of binary places, ties to even. Definitions only.
+-- A whole number rounded by a number of binary places, ties to even. Definitions only.
 use Prim.Native.Nat.{ℕ, _+_, _/_, _%_, _^_}
 use mathlib.Core.Bool.{Bool, true, false, cond}
 use lib.Dec.{eqb}
@@ -11,13 +11,13 @@ pub record Rounded : Type 0 where
   pub quotient : ℕ
   pub says : Rounding
 
--- "exact, magnitude rounded up, or magnitude rounded down"
+-- [6.4] what is said of a rounding
 abbrev pub direction : Bool → Bool → Rounding
 direction true up = Exact
 direction false true = Up
 direction false false = Down
 
--- "rounded once, ties to even": n / 2 ^ k to the nearest whole number, a half going to the even one
+-- [6.1] n / 2 ^ k to the nearest whole number, a half going to the even one
 unfoldable pub round : ℕ → ℕ → Rounded
 round n k =
     let d = 2 ^ k in

@@ -20,18 +20,17 @@ pub record Scaled : Type 0 where
   pub class : Class
   pub says : Rounding
 
--- "an exponent above the bias gives infinity of x's sign"; "infinity from a finite value is up"
+-- [6.3, 6.4] an exponent above the bias gives an infinity, and an infinity from a value is up
 abbrev pub bounded : Format → Bool → ℕ → Rounding → Scaled
 bounded f s n says = cond (ltZ (pos (f .bias)) (exponentOf f n)) (record { class = infinite s; says = Up }) (record { class = finite (record { negative = s; count = n }); says = says })
 
--- "The exact value x·2^k is rounded once, ties to even; ... only bits below the format's smallest place are rounded away, a value rounded
--- to nothing being a zero of x's sign."
+-- [6.1, 6.2] x·2^k, rounded once, and only below the smallest place
 unfoldable pub scaleValue : Format → Value → ℤ → Scaled
 unfolding round
 scaleValue f v (pos k) = bounded f (v .negative) (v .count * 2 ^ k) Exact
 scaleValue f v (negsuc k) = let c = round (v .count) (suc k) in bounded f (v .negative) (c .quotient) (c .says)
 
--- "Zeros and infinities return themselves, exact, for each k."
+-- [6.5] zeros and infinities stay as they are
 unfoldable pub scaleClass : Format → Class → ℤ → Scaled
 unfolding scaleValue
 scaleClass f unsupported k = record { class = unsupported; says = Exact }
@@ -39,7 +38,7 @@ scaleClass f nan k = record { class = nan; says = Exact }
 scaleClass f (infinite s) k = record { class = infinite s; says = Exact }
 scaleClass f (finite v) k = let a = scaleValue f v k in cond (eqb (v .count) 0) (record { class = finite v; says = Exact }) a
 
--- "Scaling knows only 0, 2 and 3."
+-- [7.4] what scaling refuses
 abbrev pub scaling : Class → List Check
 scaling x = check 2 (isUnsupported x) ∷ check 3 (isNan x) ∷ []
 
@@ -48,7 +47,7 @@ pub record ScaleReport : Type 0 where
   pub value : ℕ
   pub says : Rounding
 
--- what x stands for, scaled by 2 ^ k; "scaling says exact" of a refusal
+-- [7.5] what x stands for, scaled by 2 ^ k; a refusal says exact
 unfoldable pub scaleOf : Format → Class → ℤ → ScaleReport
 unfolding first scaleClass
 scaleOf f x k =
@@ -61,11 +60,11 @@ unfoldable pub scaleReport : Format → ℕ → ℤ → ScaleReport
 unfolding scaleOf
 scaleReport f x k = scaleOf f (classOf f x) k
 
--- "a significand with magnitude from 1 to below 2": the count of v with its leading one moved to the place of one, 2 ^ 0
+-- [6.6] the count of v with its leading one moved to the place of one, 2 ^ 0
 unfoldable pub significandOf : Format → Value → Value
 significandOf f v = record { negative = v .negative; count = v .count * 2 ^ natAbs (f .smallest) / 2 ^ (size (v .count) - 1) }
 
--- "splitting an infinity", "splitting a zero"
+-- [7.1] what splitting refuses: 4 is an infinity here, and 8 a zero
 abbrev pub splitting : Class → List Check
 splitting x = check 2 (isUnsupported x) ∷ check 3 (isNan x) ∷ check 4 (isInfinite x) ∷ check 8 (isZero x) ∷ []
 
@@ -74,7 +73,7 @@ pub record SplitReport : Type 0 where
   pub significand : ℕ
   pub exponent : ℤ
 
--- what x stands for, split. "Under 2 to 6 and 8, quotient bits, steps and exponent are 0"
+-- [6.6, 7.5] what x stands for, split; a refusal has the exponent 0
 unfoldable pub splitOf : Format → Class → SplitReport
 unfolding first significandOf
 splitOf f x =

@@ -9,12 +9,11 @@ use Rattle.definitions.specs.Class.{Value, gap, signed, combined}
 use Rattle.definitions.specs.declared.Kind.{Kind}
 use Rattle.definitions.specs.Division.{Outcome, Divisor, unbounded, by, finish, finishBy}
 
--- "If D < 64 it finishes as above."
+-- [4.2] a step of this gap finishes
 abbrev pub near : ℤ → Bool
 near D = ltZ D (pos 64)
 
--- "QQ is |x|/|y|/2^(D−n) cut to a whole number, the value becomes x less QQ·2^(D−n) times y (signs as above), and the quotient part is
--- QQ·2^(D−n)": here j = D − n. "Both kinds cut in a partial step. A zero partial value keeps x's sign and is still partial."
+-- [4.3, 4.4, 4.5] a partial step, with j = D − n: QQ is x / (m · 2^j), cut, whatever the kind, and the value keeps the sign of x
 unfoldable pub cutAt : ℕ → ℕ → Value → Outcome
 cutAt j m x =
     record {
@@ -36,7 +35,7 @@ stepBy κ n m x =
     let c = cutAt (natAbs D - usedSize D n) m x in
     cond (near D) f c
 
--- "A step takes x, y, a size n and the kind." An infinite divisor finishes in one step.
+-- [4.1, 3.7] an infinite divisor finishes in one step
 unfoldable pub step : Kind → ℕ → Divisor → Value → Outcome
 unfolding stepBy finish
 step κ n unbounded x = finish κ unbounded x
@@ -46,7 +45,7 @@ step κ n (by m) x = stepBy κ n m x
 abbrev pub followed : Outcome → Outcome → Outcome
 followed r s = record { done = s .done; value = s .value; whole = r .whole + s .whole; steps = r .steps + s .steps }
 
--- "A run repeats steps of one size, with a budget of any 32-bit number. It leaves at the first step that finishes or at the spent budget"
+-- [4.6] a run ends at the first step that finishes, or when the budget is spent
 unfoldable pub run : Kind → ℕ → ℕ → Divisor → Value → Outcome
 unfolding step
 run κ n zero d x = record { done = false; value = x; whole = 0; steps = 0 }
@@ -70,7 +69,7 @@ chain κ n (suc b) d x =
     let ls = chain κ n b d (s .value) in
     record { size = n; dividend = x; reply = s } ∷ cond (s .done) [] ls
 
--- "each part with the combined sign of its step's operands": the sum of the exact parts of a chain by the divisor y
+-- [4.10] the sum of the exact parts of a chain by the divisor y, each with the sign of its step
 abbrev pub signedPart : Value → Link → ℤ
 signedPart y l = signed (combined (l .dividend .negative) (y .negative)) (l .reply .whole)
 
@@ -78,7 +77,7 @@ unfoldable pub partsSum : Value → List Link → ℤ
 partsSum y [] = pos 0
 partsSum y (l ∷ ls) = signedPart y l +ℤ partsSum y ls
 
--- "at most one step if D is below 64, else at most D/32 rounded down"
+-- [5.6] the most steps that any list takes
 abbrev pub mostSteps : ℤ → ℕ
 mostSteps D = cond (near D) 1 (natAbs D / 32)
 
@@ -87,7 +86,7 @@ unfoldable pub needed : Kind → ℕ → ℕ → Value → ℕ
 unfolding run
 needed κ n m x = run κ n (mostSteps (gap (x .count) m)) (by m) x .steps
 
--- "on a finished step C0, C3 and C1 are bits 2, 1 and 0 of that last step's quotient"; C2 says that the step was partial
+-- [4.11] the flags of a step
 pub record Flags : Type 0 where
   pub c0 : Bool
   pub c1 : Bool

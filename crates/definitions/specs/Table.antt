@@ -1,5 +1,5 @@
--- Document 01, "Readings on both sides": the ten cases that are proved, as one table of what is asked and what is printed there,
--- and cases 11 and 12, with one more from "Authority", as a second one. Definitions only.
+-- Worked examples, with the answers that the library's users wrote down before there was any code: ten as one table of what is asked
+-- and what is told, and a second table of longer ones. Definitions only.
 use Prim.Native.Nat.{ℕ}
 use mathlib.Core.List.{List, [], _∷_}
 use lib.IntN.{ℤ, pos, negsuc}
@@ -97,7 +97,7 @@ longReadings =
     ∷ reading (wholeRun Truncated 63 9 0x403F8000000000000000 0x3FFF8000000000000000) (steps 0 0x00000000000000000000 0 2)
     -- 12: the largest finite value by the smallest denormal
     ∷ reading (wholeRun Truncated 32 4294967295 0x7FFEFFFFFFFFFFFFFFFF 0x00000000000000000001) (steps 0 0x00000000000000000000 0 3)
-    -- "a partial value may fall further (2^127 by 2^64 − 1 gives 2^63)", at size 63
+    -- a partial value may fall by more than 63 places: 2^127 by 2^64 − 1 gives 2^63, at size 63
     ∷ reading (oneStep Truncated 63 0x407E8000000000000000 0x403EFFFFFFFFFFFFFFFF) (steps 1 0x403E8000000000000000 0 1)
     ∷ []
 

@@ -42,7 +42,7 @@ pub cut-held : (f : Format) (j m : ℕ) (x : Value) → 0 < m → Representable 
 unfolding cutAt
 cut-held f j m x h hm hx = left-held f (x .count) m j h hm hx
 
--- "The result is always representable"
+-- [3.4] the result is representable
 pub finish-held : (f : Format) (κ : Kind) (m : ℕ) (x : Value) → 0 < m → Representable f m → Representable f (x .count) → Representable f (finishBy κ m x .value .count)
 unfolding finishBy
 finish-held f κ m x h hm hx = go (roundsUp κ (n / m) (n % m) m) (up-half κ (n / m) (n % m) m)
@@ -86,7 +86,7 @@ signed-past : (s : Bool) (n r t : ℕ) → n + r ≡ t → signed s n ≡ signed
 signed-past s n r t e =
     sym (rw (signed-not s r, ← e, signed-add s n r) (+ℤ-comm (negℤ (signed s r)) (signed s n +ℤ signed s r) ∙ +ℤ-negℤ-cancel (signed s n) (signed s r)))
 
--- "The magnitude rule is x − Q·y with Q given x's and y's combined sign": for a divisor of the count m and the sign t
+-- [3.3] x − Q·y, for a divisor of the count m and the sign t
 pub rule : (κ : Kind) (m : ℕ) (t : Bool) (x : Value) → 0 < m
     → valueOf x ≡ valueOf (finishBy κ m x .value) +ℤ signed t m *ℤ signed (combined (x .negative) t) (finishBy κ m x .whole)
 unfolding finishBy
@@ -134,7 +134,7 @@ nearest-half m x h = go (ltb m (2 * r)) (eqb m (2 * r)) (eqb (q % 2) 1) refl ref
     go false true false ea eb ec = let l = eqb-true m (2 * r) eb in let o = eqb-false (q % 2) 1 ec in record { most = omega arith; even = λ e. omega arith }
     go false false c ea eb ec = let l = ltb-false m (2 * r) ea in let o = eqb-false m (2 * r) eb in record { most = omega arith; even = λ e. omega arith }
 
--- "A zero result has x's sign."
+-- [3.5] a zero result has the sign of x
 pub zero-sign : (κ : Kind) (m : ℕ) (x : Value) → 0 < m → finishBy κ m x .value .count ≡ 0 → finishBy κ m x .value .negative ≡ x .negative
 unfolding finishBy
 zero-sign κ m x h = go (roundsUp κ (n / m) (n % m) m)

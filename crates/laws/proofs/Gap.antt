@@ -40,7 +40,7 @@ gap-near n m = gap-is (λ D. ltZ D (pos 64) ≡ ltb (size n - size m) 64) n m re
 pub gap-far : (n m : ℕ) → 64 ≤ size n - size m → natAbs (gap n m) ≡ size n - size m
 gap-far n m far = gap-is (λ D. natAbs D ≡ size n - size m) n m refl (λ k h. omega arith)
 
--- "The gap D is the dividend's exponent less the divisor's": the smallest place cancels
+-- [2.8] the gap is the difference of the exponents: the smallest place cancels
 pub cancel : (z a b : ℤ) → (z +ℤ a) -ℤ (z +ℤ b) ≡ a -ℤ b
 cancel z a b = rw (negℤ-+ℤ z b, +ℤ-comm z a, ← +ℤ-assoc (a +ℤ z) (negℤ z) (negℤ b), +ℤ-negℤ-cancel a z)
 

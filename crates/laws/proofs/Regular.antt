@@ -1,4 +1,4 @@
--- Each of the four formats is one that the laws speak of, and its largest gap is the one that document 01 prints. Assumes nothing.
+-- Each of the four formats is one that the laws speak of, and its largest gap is as the scope says. Assumes nothing.
 use mathlib.Core.Path.{_≡_, refl}
 use lib.Dec.{lit≤}
 use Rattle.definitions.specs.Format.{Regular, binary16, binary32, binary64, x87, largestGap}

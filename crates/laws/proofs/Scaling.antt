@@ -118,7 +118,7 @@ Numeric (infinite s) = Unit {0}
 Numeric (finite v) = Unit {0}
 
 module _ (f : Format) (r : Regular f) (x : ℕ) (small : x < patterns f) where
-  -- "Zeros and infinities return themselves, exact, for each k."
+  -- [6.5] zeros and infinities stay as they are
   pub scale-infinite : (s : Bool) (k : ℤ) → classOf f x ≡ infinite s → scaleReport f x k ≡ unchanged x
   unfolding scaleReport scaleOf scaleClass first
   scale-infinite s k e = rw (e, written-infinite f r x s small e)

@@ -60,7 +60,7 @@ module _ (f : Format) (r : Regular f) (v : Value) (some : 0 < v .count) (held : 
       let b = size-shift (v .count) (onePlace f) some in
       omega (arith, ap size significand-count)
 
-  -- "a significand with magnitude from 1 to below 2"
+  -- [6.6] the significand is from 1 to below 2
   pub significand-exponent : exponentOf f (significandOf f v .count) ≡ pos 0
   significand-exponent =
       let e : size (significandOf f v .count) - 1 ≡ onePlace f = omega (arith, significand-size) in
@@ -82,7 +82,7 @@ module _ (f : Format) (r : Regular f) (v : Value) (some : 0 < v .count) (held : 
       ap (scaleValue f (significandOf f v)) (exponent-is f r (v .count)) ∙ scale-round f (significandOf f v) (size (v .count) - 1) (onePlace f)
       ∙ rw (significand-count, round-multiple (v .count) (onePlace f), significand-sign f v) (bounded-finite f r (v .negative) (v .count) Exact (held .range))
 
--- "scaling the first by the second says exact and gives the value's own pattern"
+-- [6.7] what was split scales back to itself
 pub split-back : (f : Format) → Regular f → (x : ℕ) → x < patterns f → (v : Value) → classOf f x ≡ finite v → 0 < v .count
     → (splitReport f x .number ≡ 0) × (scaleReport f (splitReport f x .significand) (splitReport f x .exponent) ≡ unchanged x)
 split-back f r x small v e some =

@@ -1,4 +1,4 @@
-// Answers each line of standard input by a line of standard output: document 01, "The line program". What is written for a buffer of
+// Answers each line of standard input by a line of standard output. What is written for a buffer of
 // input, and what is kept of it, is proved in `lines`; what this file does is read, hand on and write, and its stored input tests that.
 use libc::STDIN_FILENO;
 use libc::STDOUT_FILENO;
