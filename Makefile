@@ -23,7 +23,7 @@ out = target/c
 faults = target/faulty
 linked = $(out)/lib/libzukemoriha.a
 
-exports = export_remainder export_steps export_scaling export_lists
+exports = export_remainder export_steps export_scaling export_fold
 programs = host untouched chains fold half fprem libm ldexp
 version = $(shell sed -n 's/^\#define ZK_VERSION "\(.*\)"/\1/p' include/zukemoriha.h)
 warnings = -Wall -Wextra -pedantic
