@@ -1,20 +1,26 @@
 #!/bin/sh
-# What the documents name is there, and the crate's version is the header's: every edit in the row of its crate in docs/PROOF.md and no other, every file that a link or a
-# path below crates/, rust/, tests/, vectors/ or docs/ speaks of.
+# What the documents name is there, and the crate's version is the header's: every edit in the list of its crate in docs/PROOF.md and no
+# other, every crate in docs/ARCHITECTURE.md, every file that a link or a path below crates/, rust/, tests/, vectors/ or docs/ speaks of,
+# and every sentence of docs/SCOPE.md that a comment or a page points at.
 set -eu
 wrong=0
 say() { echo "$*"; wrong=1; }
 
 listed=$(mktemp)
-awk -F '|' '/^\| `[a-z_]*`: / { split($2, crate, "`"); n = split($3, names, ","); for (i = 1; i <= n; i++) {
-    gsub(/^ +| +$/, "", names[i]); gsub(/ /, "-", names[i]); print crate[2] "/" names[i] } }' docs/PROOF.md | sort > "$listed"
+awk 'function flush() { if (crate != "") { sub(/[.]$/, "", text); n = split(text, names, ", "); for (i = 1; i <= n; i++) {
+        gsub(/ /, "-", names[i]); print crate "/" names[i] } } crate = "" }
+    /^## / { within = ($2 == "4.") }
+    within && /^- `[a-z_]*`: / { flush(); split($0, part, "`"); crate = part[2]; text = substr($0, index($0, ": ") + 2); next }
+    crate != "" && /^  / { text = text substr($0, 2); next }
+    { flush() }
+    END { flush() }' docs/PROOF.md | sort > "$listed"
 ls crates/*/must-fail/*.edit | sed 's|crates/\(.*\)/must-fail/\(.*\)\.edit|\1/\2|' | sort | diff "$listed" - || say 'docs/PROOF.md lists other edits'
 for edit in $(grep -oh '`[a-z_]*/[a-z0-9-][a-z0-9-]*`' docs/PROOF.md | tr -d '`'); do
     [ -e "crates/${edit%/*}/must-fail/${edit#*/}.edit" ] || [ -e "$edit" ] || [ -e "crates/$edit" ] || say "docs/PROOF.md: no edit $edit"
 done
 
 for crate in $(ls crates); do
-    grep -q "\`$crate\`" README.md || case $crate in export_*) ;; *) say "README.md does not name the crate $crate" ;; esac
+    grep -q "\`$crate\`" docs/ARCHITECTURE.md || say "docs/ARCHITECTURE.md does not name the crate $crate"
 done
 
 for page in README.md docs/*.md rust/zukemoriha/README.md vectors/README.md; do
@@ -24,6 +30,10 @@ for page in README.md docs/*.md rust/zukemoriha/README.md vectors/README.md; do
     for path in $(grep -oE '`(crates|rust|tests|vectors|docs|bench|examples|include)/[A-Za-z0-9_./*-]*`' "$page" | tr -d '`' | sort -u); do
         ls -d $path > /dev/null 2>&1 || say "$page: no $path"
     done
+done
+numbered=$(awk '/^## [0-9]/ { section = $2 + 0 } /^[0-9]+[.] / { print section "." ($1 + 0) }' docs/SCOPE.md)
+for sentence in $(grep -rhoE '\[[0-9]+[.][0-9]+[^]]*\]' crates/*/specs crates/*/proofs crates/*/src docs/PROOF.md | grep -oE '[0-9]+[.][0-9]+' | sort -u); do
+    echo "$numbered" | grep -qx "$sentence" || say "docs/SCOPE.md has no sentence $sentence"
 done
 [ "$(sed -n 's/^version = //p' rust/zukemoriha/Cargo.toml)" = "$(sed -n 's/^#define ZK_VERSION //p' include/zukemoriha.h)" ] ||
     say 'the Rust crate and the header are of different versions'

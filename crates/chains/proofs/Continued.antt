@@ -43,7 +43,7 @@ still κ n zero v h = h
 still κ n (suc b) v h = h
 
 -- the value of a run by any divisor stays representable
-held : (κ : Kind) (n b y : ℕ) (Y : Class) (v : Value) → classOf x87 y ≡ Y → isZero Y ≡ false → Representable x87 (v .count)
+pub held : (κ : Kind) (n b y : ℕ) (Y : Class) (v : Value) → classOf x87 y ≡ Y → isZero Y ≡ false → Representable x87 (v .count)
     → Representable x87 (run κ n b (divisorOf Y) v .value .count)
 held κ n b y (finite w) v e z h =
     let some = eqb-false (w .count) 0 z in

@@ -74,9 +74,9 @@ module _ (κ : Kind) (x y : ℕ) (w : Value) (cs : List Call) (sx : State x) (ey
             ∙ (λ i. record { number = sym (told .number n rs) i; value = last (r .value) refl i; quotient = sym (told .quotient) i; steps = sym (told .steps) i });
       }
 
-pub everyList : (κ : Kind) (x y : ℕ) (v w : Value) (cs : List Call) → x < patterns x87 → classOf x87 x ≡ finite v
+pub every-list : (κ : Kind) (x y : ℕ) (v w : Value) (cs : List Call) → x < patterns x87 → classOf x87 x ≡ finite v
     → classOf x87 y ≡ finite w → 0 < w .count → EveryList κ x y v w cs (taken (answer κ y) cs x)
 unfolding calls
-everyList κ x y v w cs lx ex ey p =
+every-list κ x y v w cs lx ex ey p =
     let h = finite-written x v lx ex in
     subst (λ (u : Value). EveryList κ x y u w cs (taken (answer κ y) cs x)) (written-value h) (claim κ x y w cs (written-state h) ey p)

@@ -9,3 +9,4 @@ pub mod EveryList
 pub mod Spent
 pub mod Continued
 pub mod Flags
+pub mod Small

@@ -13,3 +13,4 @@ pub mod Scaling
 pub mod Splitting
 pub mod Small
 pub mod Order
+pub mod Bytes
