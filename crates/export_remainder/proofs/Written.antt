@@ -1,45 +1,48 @@
--- What an exported remainder writes, from what the library told. Assumes nothing.
-use mathlib.Core.Path.{_≡_, refl, sym, ap, _∙_, subst}
-use Prim.Native.Nat.{ℕ, _^_, _<_}
+-- What an exported remainder writes, from what the library told: in every format, out of one word of a pattern or of two. Assumes nothing.
+use mathlib.Core.Path.{_≡_, refl, sym, ap, _∙_}
+use Prim.Native.Nat.{ℕ, _^_, _≤_, _<_}
+use native.Mathlib.Omega.{arith}
 use Rattle.definitions.specs.Format.{Format, Regular, patterns}
 use Rattle.definitions.specs.Remainder.{Remainder, remainder}
-use Rattle.definitions.specs.Answers.{refusalNumber, remainderMeaning, remainderMeaning80}
+use Rattle.definitions.specs.Answers.{refusalNumber, remainderMeaning, joined}
 use Rattle.definitions.specs.declared.Kind.{Kind}
+use Rattle.definitions.specs.declared.Pattern.{Pattern}
 use Rattle.definitions.specs.declared.Refusal.{Refusal}
-use Rattle.definitions.specs.declared.Extended.{Extended}
 use Rattle.definitions.specs.declared.RemainderAnswer.{RemainderAnswer}
-use Rattle.definitions.specs.declared.RemainderAnswer.the-variants as rem
-use Rattle.definitions.specs.declared.RemainderAnswer80.{RemainderAnswer80}
-use Rattle.definitions.specs.declared.RemainderAnswer80.the-variants as rem80
+use Rattle.definitions.specs.declared.RemainderAnswer.the-variants.{Finished, Refused}
 use Rattle.interface.specs.Interface.{after, significandIn, wordIn}
-use Rattle.laws.proofs.Small.{remainder-small}
 use Rattle.interface.proofs.Written.{kept, significand-of, word-of}
+use Rattle.laws.proofs.Small.{remainder-small}
 
--- a remainder R that the library told as a
-module _ (f : Format) (a : RemainderAnswer) (R : Remainder) (told : remainderMeaning f a ≡ R) where
-  pub finished : (v q : ℕ) → a ≡ rem.Finished v q → (0 ≡ R .number) × ((v ≡ R .value) × (q ≡ R .quotient))
-  unfolding remainderMeaning
-  finished v q e = subst (λ (t : Remainder). (0 ≡ t .number) × ((v ≡ t .value) × (q ≡ t .quotient))) (ap (remainderMeaning f) (sym e) ∙ told) (refl, (refl, refl))
+-- a remainder that the library told as a
+module _ (f : Format) (r : Regular f) (κ : Kind) (x y : ℕ) (a : RemainderAnswer) (told : remainderMeaning f a ≡ remainder f κ x y) where
+  module _ (v : Pattern) (q : ℕ) (e : a ≡ Finished v q) where
+    meant : remainder f κ x y ≡ record { number = 0; value = joined v; quotient = q }
+    unfolding remainderMeaning
+    meant = sym told ∙ ap (remainderMeaning f) e
 
-  pub refused : (w : Refusal) (n value quotient : ℕ) → a ≡ rem.Refused w → n ≡ refusalNumber w
-      → (n ≡ R .number) × ((value ≡ after n (R .value) value) × (quotient ≡ after n (R .quotient) quotient))
-  unfolding remainderMeaning
-  refused w n value quotient e i =
-      (i ∙ ap (λ (t : Remainder). t .number) (ap (remainderMeaning f) (sym e) ∙ told), (kept w n (R .value) value i, kept w n (R .quotient) quotient i))
+    pub value-fits : joined v < patterns f
+    value-fits = let s = remainder-small f r κ x y in rw meant at s
 
-pub value-fits : (f : Format) → Regular f → (κ : Kind) (x y : ℕ) (a : RemainderAnswer) (v q : ℕ) → remainderMeaning f a ≡ remainder f κ x y → a ≡ rem.Finished v q → v < patterns f
-value-fits f r κ x y a v q told e = rw (finished f a (remainder f κ x y) told v q e .1 .0) (remainder-small f r κ x y)
+    -- the low word is the whole pattern
+    pub finished : patterns f ≤ 2 ^ 64 → (0 ≡ remainder f κ x y .number) × ((v .low ≡ remainder f κ x y .value) × (q ≡ remainder f κ x y .quotient))
+    finished h = let s = value-fits in rw meant (refl, (omega arith, refl))
 
-module _ (a : RemainderAnswer80) (R : Remainder) (told : remainderMeaning80 a ≡ R) where
-  pub finished80 : (v : Extended) (q : ℕ) → a ≡ rem80.Finished v q → v .significand < 2 ^ 64
-      → (0 ≡ R .number) × ((v .significand ≡ significandIn (R .value)) × ((v .word ≡ wordIn (R .value)) × (q ≡ R .quotient)))
-  unfolding remainderMeaning80
-  finished80 v q e h =
-      subst (λ (t : Remainder). (0 ≡ t .number) × ((v .significand ≡ significandIn (t .value)) × ((v .word ≡ wordIn (t .value)) × (q ≡ t .quotient))))
-      (ap remainderMeaning80 (sym e) ∙ told) (refl, (significand-of v h, (word-of v h, refl)))
+    -- the low word is the significand, and the high word is the other one
+    pub finished80 : v .low < 2 ^ 64
+        → (0 ≡ remainder f κ x y .number) × ((v .low ≡ significandIn (remainder f κ x y .value)) × ((v .high ≡ wordIn (remainder f κ x y .value)) × (q ≡ remainder f κ x y .quotient)))
+    finished80 h = rw meant (refl, (significand-of v h, (word-of v h, refl)))
 
-  pub refused80 : (w : Refusal) (n value word quotient : ℕ) → a ≡ rem80.Refused w → n ≡ refusalNumber w
-      → (n ≡ R .number) × ((value ≡ after n (significandIn (R .value)) value) × ((word ≡ after n (wordIn (R .value)) word) × (quotient ≡ after n (R .quotient) quotient)))
-  unfolding remainderMeaning80
-  refused80 w n value word quotient e i =
-      (i ∙ ap (λ (t : Remainder). t .number) (ap remainderMeaning80 (sym e) ∙ told), (kept w n _ value i, (kept w n _ word i, kept w n _ quotient i)))
+  module _ (w : Refusal) (n : ℕ) (e : a ≡ Refused w) (is : n ≡ refusalNumber w) where
+    number-is : n ≡ remainder f κ x y .number
+    unfolding remainderMeaning
+    number-is = is ∙ ap (λ (t : Remainder). t .number) (ap (remainderMeaning f) (sym e) ∙ told)
+
+    pub refused : (value quotient : ℕ)
+        → (n ≡ remainder f κ x y .number) × ((value ≡ after n (remainder f κ x y .value) value) × (quotient ≡ after n (remainder f κ x y .quotient) quotient))
+    refused value quotient = (number-is, (kept w n _ value is, kept w n _ quotient is))
+
+    pub refused80 : (value word quotient : ℕ)
+        → (n ≡ remainder f κ x y .number)
+        × ((value ≡ after n (significandIn (remainder f κ x y .value)) value) × ((word ≡ after n (wordIn (remainder f κ x y .value)) word) × (quotient ≡ after n (remainder f κ x y .quotient) quotient)))
+    refused80 value word quotient = (number-is, (kept w n _ value is, (kept w n _ word is, kept w n _ quotient is)))

@@ -1,46 +1,49 @@
 -- What an exported scaling writes, from what the library told. Assumes nothing.
-use mathlib.Core.Path.{_≡_, refl, sym, ap, _∙_, subst}
-use Prim.Native.Nat.{ℕ, _^_, _<_}
+use mathlib.Core.Path.{_≡_, refl, sym, ap, _∙_}
+use Prim.Native.Nat.{ℕ, _^_, _≤_, _<_}
+use native.Mathlib.Omega.{arith}
 use lib.IntN.{ℤ}
 use Rattle.definitions.specs.Format.{Format, Regular, patterns}
 use Rattle.definitions.specs.Scale.{ScaleReport, scaleReport}
-use Rattle.definitions.specs.Answers.{refusalNumber, scaleMeaning, scaleMeaning80}
+use Rattle.definitions.specs.Answers.{refusalNumber, joined, scaleMeaning}
+use Rattle.definitions.specs.declared.Pattern.{Pattern}
 use Rattle.definitions.specs.declared.Refusal.{Refusal}
 use Rattle.definitions.specs.declared.Rounding.{Rounding}
-use Rattle.definitions.specs.declared.Extended.{Extended}
 use Rattle.definitions.specs.declared.ScaleAnswer.{ScaleAnswer}
 use Rattle.definitions.specs.declared.ScaleAnswer.the-variants as scale
-use Rattle.definitions.specs.declared.ScaleAnswer80.{ScaleAnswer80}
-use Rattle.definitions.specs.declared.ScaleAnswer80.the-variants as scale80
 use Rattle.interface.specs.Interface.{after, saysNumber, significandIn, wordIn}
 use Rattle.laws.proofs.Small.{scale-small}
 use Rattle.interface.proofs.Written.{kept, significand-of, word-of}
 
--- a report R that the library told as a
-module _ (f : Format) (a : ScaleAnswer) (R : ScaleReport) (told : scaleMeaning f a ≡ R) where
-  pub scaled : (v n : ℕ) (s : Rounding) → a ≡ scale.Scaled v s → n ≡ saysNumber s → (0 ≡ R .number) × ((v ≡ R .value) × (n ≡ saysNumber (R .says)))
-  unfolding scaleMeaning
-  scaled v n s e i = subst (λ (t : ScaleReport). (0 ≡ t .number) × ((v ≡ t .value) × (n ≡ saysNumber (t .says)))) (ap (scaleMeaning f) (sym e) ∙ told) (refl, (refl, i))
+-- the report of x scaled by 2 ^ k, which the library told as a
+module _ (f : Format) (r : Regular f) (x : ℕ) (k : ℤ) (a : ScaleAnswer) (told : scaleMeaning f a ≡ scaleReport f x k) where
+  abbrev R : ScaleReport
+  R = scaleReport f x k
 
-  pub refused : (w : Refusal) (n value says : ℕ) → a ≡ scale.Refused w → n ≡ refusalNumber w
-      → (n ≡ R .number) × ((value ≡ after n (R .value) value) × (says ≡ after n (saysNumber (R .says)) says))
-  unfolding scaleMeaning
-  refused w n value says e i =
-      (i ∙ ap (λ (t : ScaleReport). t .number) (ap (scaleMeaning f) (sym e) ∙ told), (kept w n (R .value) value i, kept w n (saysNumber (R .says)) says i))
+  module _ (v : Pattern) (s : Rounding) (is : a ≡ scale.Scaled v s) where
+    report : record { number = 0; value = joined v; says = s } ≡ R
+    unfolding scaleMeaning
+    report = ap (scaleMeaning f) (sym is) ∙ told
 
-pub value-fits : (f : Format) → Regular f → (x : ℕ) (k : ℤ) (a : ScaleAnswer) (v : ℕ) (s : Rounding) → scaleMeaning f a ≡ scaleReport f x k → a ≡ scale.Scaled v s → v < patterns f
-value-fits f r x k a v s told e = rw (scaled f a (scaleReport f x k) told v (saysNumber s) s e refl .1 .0) (scale-small f r x k)
+    pub value-small : joined v < patterns f
+    value-small = rw (ap (λ (t : ScaleReport). t .value) report) (scale-small f r x k)
 
-module _ (a : ScaleAnswer80) (R : ScaleReport) (told : scaleMeaning80 a ≡ R) where
-  pub scaled80 : (v : Extended) (n : ℕ) (s : Rounding) → a ≡ scale80.Scaled v s → n ≡ saysNumber s → v .significand < 2 ^ 64
-      → (0 ≡ R .number) × ((v .significand ≡ significandIn (R .value)) × ((v .word ≡ wordIn (R .value)) × (n ≡ saysNumber (R .says))))
-  unfolding scaleMeaning80
-  scaled80 v n s e i h =
-      subst (λ (t : ScaleReport). (0 ≡ t .number) × ((v .significand ≡ significandIn (t .value)) × ((v .word ≡ wordIn (t .value)) × (n ≡ saysNumber (t .says)))))
-      (ap scaleMeaning80 (sym e) ∙ told) (refl, (significand-of v h, (word-of v h, i)))
+    -- a value of one word, and one of two
+    pub scaled : (n : ℕ) → n ≡ saysNumber s → patterns f ≤ 2 ^ 64 → (0 ≡ R .number) × ((v .low ≡ R .value) × (n ≡ saysNumber (R .says)))
+    scaled n i one = rw (← report) (refl, (omega (arith, value-small), i))
 
-  pub refused80 : (w : Refusal) (n value word says : ℕ) → a ≡ scale80.Refused w → n ≡ refusalNumber w
-      → (n ≡ R .number) × ((value ≡ after n (significandIn (R .value)) value) × ((word ≡ after n (wordIn (R .value)) word) × (says ≡ after n (saysNumber (R .says)) says)))
-  unfolding scaleMeaning80
-  refused80 w n value word says e i =
-      (i ∙ ap (λ (t : ScaleReport). t .number) (ap scaleMeaning80 (sym e) ∙ told), (kept w n _ value i, (kept w n _ word i, kept w n _ says i)))
+    pub scaled80 : (n : ℕ) → n ≡ saysNumber s → v .low < 2 ^ 64
+        → (0 ≡ R .number) × ((v .low ≡ significandIn (R .value)) × ((v .high ≡ wordIn (R .value)) × (n ≡ saysNumber (R .says))))
+    scaled80 n i h = rw (← report) (refl, (significand-of v h, (word-of v h, i)))
+
+  module _ (w : Refusal) (n : ℕ) (is : a ≡ scale.Refused w) (i : n ≡ refusalNumber w) where
+    number-is : n ≡ R .number
+    unfolding scaleMeaning
+    number-is = i ∙ ap (λ (t : ScaleReport). t .number) (ap (scaleMeaning f) (sym is) ∙ told)
+
+    pub refused : (value says : ℕ) → (n ≡ R .number) × ((value ≡ after n (R .value) value) × (says ≡ after n (saysNumber (R .says)) says))
+    refused value says = (number-is, (kept w n (R .value) value i, kept w n (saysNumber (R .says)) says i))
+
+    pub refused80 : (value word says : ℕ)
+        → (n ≡ R .number) × ((value ≡ after n (significandIn (R .value)) value) × ((word ≡ after n (wordIn (R .value)) word) × (says ≡ after n (saysNumber (R .says)) says)))
+    refused80 value word says = (number-is, (kept w n _ value i, (kept w n _ word i, kept w n _ says i)))

@@ -1,3 +1,4 @@
 pub mod OnePlace
+pub mod OnOperands
 pub mod Front
 pub mod Whole

@@ -54,9 +54,9 @@ pub record Shows (o : Output) (l : List ℕ) : Type 0 where
   pub short : length l ≤ 20
   pub line : take (o .len) (o .bytes) ≡ l
 
-quotientBits : (l : List ℕ) → length l ≤ 20 → Shows (outputOf l) l
+shown : (l : List ℕ) → length l ≤ 20 → Shows (outputOf l) l
 unfolding outputOf
-quotientBits l h =
+shown l h =
     record {
       bytes = rw (length-append l, length-replicate) (omega arith);
       len = refl;
@@ -65,4 +65,4 @@ quotientBits l h =
     }
 
 pub shows : (l : List ℕ) (o : Output) → o ≡ outputOf (lineFor l) → Shows o (lineFor l)
-shows l o e = subst (λ (p : Output). Shows p (lineFor l)) (sym e) (quotientBits (lineFor l) (line-length l))
+shows l o e = subst (λ (p : Output). Shows p (lineFor l)) (sym e) (shown (lineFor l) (line-length l))

@@ -1,4 +1,4 @@
-// One line of input answered by one line of output.
+// One line of input answered by one line of output: document 01, "The line program".
 mod output;
 pub mod stream;
 

@@ -1,3 +1,3 @@
-pub mod Standing
 pub mod Cut
 pub mod Pairs
+pub mod Kept

@@ -1,6 +1,4 @@
 pub mod Powers
+pub mod Places
 pub mod Scaled
-pub mod Classes
-pub mod Told
 pub mod Parts
-pub mod Formats

@@ -26,11 +26,7 @@ fn scale_of(shape: Shape, x: Operand, power: i32) -> ScaleAnswer
     match x {
         Operand::Unsupported => ScaleAnswer::Refused(Refusal::Unsupported),
         Operand::Nan => ScaleAnswer::Refused(Refusal::Nan),
-        Operand::Infinite(_) => ScaleAnswer::Scaled {
-            value: pack(shape, x),
-            says: Rounding::Exact,
-        },
-        Operand::Zero(_) => ScaleAnswer::Scaled {
+        Operand::Infinite(_) | Operand::Zero(_) => ScaleAnswer::Scaled {
             value: pack(shape, x),
             says: Rounding::Exact,
         },
@@ -49,23 +45,27 @@ fn scale_of(shape: Shape, x: Operand, power: i32) -> ScaleAnswer
 pub fn scale16(x: u16, power: i32) -> ScaleAnswer
     ensures { λ r. ⌜ scaleMeaning binary16 r ≡ scaleReport binary16 x power ⌝ }
 {
-    scale_of(Binary16::shape(), Binary16::of_pattern(x).operand, power)
+    let operand = Binary16::of_pattern(x).operand;
+    scale_of(Binary16::shape(), operand, power)
 }
 
 pub fn scale32(x: u32, power: i32) -> ScaleAnswer
     ensures { λ r. ⌜ scaleMeaning binary32 r ≡ scaleReport binary32 x power ⌝ }
 {
-    scale_of(Binary32::shape(), Binary32::of_pattern(x).operand, power)
+    let operand = Binary32::of_pattern(x).operand;
+    scale_of(Binary32::shape(), operand, power)
 }
 
 pub fn scale64(x: u64, power: i32) -> ScaleAnswer
     ensures { λ r. ⌜ scaleMeaning binary64 r ≡ scaleReport binary64 x power ⌝ }
 {
-    scale_of(Binary64::shape(), Binary64::of_pattern(x).operand, power)
+    let operand = Binary64::of_pattern(x).operand;
+    scale_of(Binary64::shape(), operand, power)
 }
 
 pub fn scale80(x: u64, xw: u16, power: i32) -> ScaleAnswer
     ensures { λ r. ⌜ scaleMeaning x87 r ≡ scaleReport x87 (words xw x) power ⌝ }
 {
-    scale_of(X87::shape(), X87::of_pattern(x, xw).operand, power)
+    let operand = X87::of_pattern(x, xw).operand;
+    scale_of(X87::shape(), operand, power)
 }

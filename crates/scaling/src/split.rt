@@ -44,23 +44,27 @@ fn split_of(shape: Shape, x: Operand) -> SplitAnswer
 pub fn split16(x: u16) -> SplitAnswer
     ensures { λ r. ⌜ splitMeaning binary16 r ≡ splitReport binary16 x ⌝ }
 {
-    split_of(Binary16::shape(), Binary16::of_pattern(x).operand)
+    let operand = Binary16::of_pattern(x).operand;
+    split_of(Binary16::shape(), operand)
 }
 
 pub fn split32(x: u32) -> SplitAnswer
     ensures { λ r. ⌜ splitMeaning binary32 r ≡ splitReport binary32 x ⌝ }
 {
-    split_of(Binary32::shape(), Binary32::of_pattern(x).operand)
+    let operand = Binary32::of_pattern(x).operand;
+    split_of(Binary32::shape(), operand)
 }
 
 pub fn split64(x: u64) -> SplitAnswer
     ensures { λ r. ⌜ splitMeaning binary64 r ≡ splitReport binary64 x ⌝ }
 {
-    split_of(Binary64::shape(), Binary64::of_pattern(x).operand)
+    let operand = Binary64::of_pattern(x).operand;
+    split_of(Binary64::shape(), operand)
 }
 
 pub fn split80(x: u64, xw: u16) -> SplitAnswer
     ensures { λ r. ⌜ splitMeaning x87 r ≡ splitReport x87 (words xw x) ⌝ }
 {
-    split_of(X87::shape(), X87::of_pattern(x, xw).operand)
+    let operand = X87::of_pattern(x, xw).operand;
+    split_of(X87::shape(), operand)
 }

@@ -2,11 +2,11 @@
 use mathlib.Core.Path.{_≡_}
 use Rattle.definitions.specs.Fold.{foldList}
 use Rattle.definitions.specs.Block.{kindOf}
-use Rattle.lists.specs.Told.{foldMeaning}
-use Rattle.export_lists.proofs.Written.{fold-number, refused, folded}
+use Rattle.fold.specs.Places.{foldMeaning}
+use Rattle.export_fold.proofs.Written.{fold-number, refused, folded}
 use borrow.Author.Needs.{needs}
-use Rattle.export_lists.proofs.zk_fold64.Statement.{statement}
-use Rattle.export_lists.proofs.zk_fold64.Tie as tie
+use Rattle.export_fold.proofs.zk_fold64.Statement.{statement}
+use Rattle.export_fold.proofs.zk_fold64.Tie as tie
 
 kind-of-requires : tie.Need-kind-of-requires
 kind-of-requires c κs = search needs

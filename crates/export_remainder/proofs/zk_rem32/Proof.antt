@@ -1,5 +1,7 @@
 -- `zk_rem32` meets its contract: what it writes is what `remainder32` tells. Assumes nothing.
 use mathlib.Core.Path.{_≡_}
+use native.Mathlib.Omega.{arith}
+use lib.Dec.{lit≤}
 use Rattle.definitions.specs.Format.{binary32}
 use Rattle.definitions.specs.Remainder.{remainder}
 use Rattle.definitions.specs.Answers.{remainderMeaning}
@@ -24,24 +26,22 @@ enum-known-v : tie.Need-enum-known-v
 enum-known-v c = search needs
 
 cast-value : tie.Need-cast-value
-cast-value c =
-    let e = c .before .before .before in
-    record { fits = value-fits binary32 regular32 _ _ _ _ _ _ (e .remainder32 .ensures) (c .before .v .given .1) }
+cast-value c = record { fits = omega (arith, value-fits binary32 regular32 _ _ _ _ (told (c .before .before .before .before)) _ _ (c .before .before .v .given .1)) }
 
 enum-known-why : tie.Need-enum-known-why
 enum-known-why c = search needs
 
-refusal-number-requires : tie.Need-refusal-number-requires
-refusal-number-requires c κs = search needs
+number-of-requires : tie.Need-number-of-requires
+number-of-requires c κs = search needs
 
 returns : tie.Need-returns
-returns c = finished binary32 _ _ (told (c .before .before .before)) _ _ (c .before .v .given .1)
+returns c = finished binary32 regular32 _ _ _ _ (told (c .before .before .before .before)) _ _ (c .before .before .v .given .1) (lit≤ tt)
 
 returns-2 : tie.Need-returns-2
 returns-2 c =
     let e = c .before .before .before .before in
     let a = e .before .before .args in
-    refused binary32 _ _ (told e) _ _ (a .value .now) (a .quotient .now) (c .before .before .why .given .1) (c .refusal-number .ensures)
+    refused binary32 regular32 _ _ _ _ (told e) _ _ (c .before .before .why .given .1) (c .number-of .ensures) (a .value .now) (a .quotient .now)
 
 pub zk-rem32-spec : {M : Type 1} → statement M
 zk-rem32-spec =
@@ -52,6 +52,6 @@ zk-rem32-spec =
     enum-known-v
     cast-value
     enum-known-why
-    refusal-number-requires
+    number-of-requires
     returns
     returns-2)

@@ -1,9 +1,11 @@
 -- `zk_rem64` meets its contract: what it writes is what `remainder64` tells. Assumes nothing.
 use mathlib.Core.Path.{_≡_}
+use lib.Dec.{lit≤}
 use Rattle.definitions.specs.Format.{binary64}
 use Rattle.definitions.specs.Remainder.{remainder}
 use Rattle.definitions.specs.Answers.{remainderMeaning}
 use Rattle.definitions.specs.Block.{kindOf}
+use Rattle.laws.proofs.Regular.{regular64}
 use Rattle.export_remainder.proofs.Written.{finished, refused}
 use borrow.Author.Needs.{needs}
 use Rattle.export_remainder.proofs.zk_rem64.Statement.{statement}
@@ -25,17 +27,17 @@ enum-known-v c = search needs
 enum-known-why : tie.Need-enum-known-why
 enum-known-why c = search needs
 
-refusal-number-requires : tie.Need-refusal-number-requires
-refusal-number-requires c κs = search needs
+number-of-requires : tie.Need-number-of-requires
+number-of-requires c κs = search needs
 
 returns : tie.Need-returns
-returns c = finished binary64 _ _ (told (c .before .before .before)) _ _ (c .before .v .given .1)
+returns c = finished binary64 regular64 _ _ _ _ (told (c .before .before .before)) _ _ (c .before .v .given .1) (lit≤ tt)
 
 returns-2 : tie.Need-returns-2
 returns-2 c =
     let e = c .before .before .before .before in
     let a = e .before .before .args in
-    refused binary64 _ _ (told e) _ _ (a .value .now) (a .quotient .now) (c .before .before .why .given .1) (c .refusal-number .ensures)
+    refused binary64 regular64 _ _ _ _ (told e) _ _ (c .before .before .why .given .1) (c .number-of .ensures) (a .value .now) (a .quotient .now)
 
 pub zk-rem64-spec : {M : Type 1} → statement M
 zk-rem64-spec =
@@ -45,6 +47,6 @@ zk-rem64-spec =
     remainder64-requires
     enum-known-v
     enum-known-why
-    refusal-number-requires
+    number-of-requires
     returns
     returns-2)

@@ -1,18 +1,18 @@
 -- `zk_rem80` meets its contract: what it writes is what `remainder80` tells. Assumes nothing.
 use mathlib.Core.Path.{_≡_}
 use native.Mathlib.Omega.{arith}
-use Rattle.definitions.specs.Format.{x87}
+use Rattle.definitions.specs.Format.{x87, words}
 use Rattle.definitions.specs.Remainder.{remainder}
-use Rattle.definitions.specs.Answers.{remainderMeaning80}
+use Rattle.definitions.specs.Answers.{remainderMeaning}
 use Rattle.definitions.specs.Block.{kindOf}
-use Rattle.interface.specs.Interface.{pattern}
-use Rattle.export_remainder.proofs.Written.{finished80, refused80}
+use Rattle.laws.proofs.Regular.{regular80}
+use Rattle.export_remainder.proofs.Written.{value-fits, finished80, refused80}
 use borrow.Author.Needs.{needs}
 use Rattle.export_remainder.proofs.zk_rem80.Statement.{statement}
 use Rattle.export_remainder.proofs.zk_rem80.Tie as tie
 
 -- what is told is the remainder of the kind that the number asks for
-told : (c : tie.After-remainder80) → let a = c .before .before .args in remainderMeaning80 (c .remainder80 .result) ≡ remainder x87 (kindOf (a .kind)) (pattern (a .x) (a .xw)) (pattern (a .y) (a .yw))
+told : (c : tie.After-remainder80) → let a = c .before .before .args in remainderMeaning x87 (c .remainder80 .result) ≡ remainder x87 (kindOf (a .kind)) (words (a .xw) (a .x)) (words (a .yw) (a .y))
 told c = rw (c .before .kind-of .ensures) at (c .remainder80 .ensures)
 
 kind-of-requires : tie.Need-kind-of-requires
@@ -24,20 +24,23 @@ remainder80-requires c κs = search needs
 enum-known-v : tie.Need-enum-known-v
 enum-known-v c = search needs
 
+cast-valuew : tie.Need-cast-valuew
+cast-valuew c = record { fits = omega (arith, value-fits x87 regular80 _ _ _ _ (told (c .before .before .before .before)) _ _ (c .before .before .v .given .1)) }
+
 enum-known-why : tie.Need-enum-known-why
 enum-known-why c = search needs
 
-refusal-number-requires : tie.Need-refusal-number-requires
-refusal-number-requires c κs = search needs
+number-of-requires : tie.Need-number-of-requires
+number-of-requires c κs = search needs
 
 returns : tie.Need-returns
-returns c = finished80 _ _ (told (c .before .before .before)) _ _ (c .before .v .given .1) (omega arith)
+returns c = finished80 x87 regular80 _ _ _ _ (told (c .before .before .before .before)) _ _ (c .before .before .v .given .1) (omega arith)
 
 returns-2 : tie.Need-returns-2
 returns-2 c =
     let e = c .before .before .before .before in
     let a = e .before .before .args in
-    refused80 _ _ (told e) _ _ (a .value .now) (a .valuew .now) (a .quotient .now) (c .before .before .why .given .1) (c .refusal-number .ensures)
+    refused80 x87 regular80 _ _ _ _ (told e) _ _ (c .before .before .why .given .1) (c .number-of .ensures) (a .value .now) (a .valuew .now) (a .quotient .now)
 
 pub zk-rem80-spec : {M : Type 1} → statement M
 zk-rem80-spec =
@@ -46,7 +49,8 @@ zk-rem80-spec =
     kind-of-requires
     remainder80-requires
     enum-known-v
+    cast-valuew
     enum-known-why
-    refusal-number-requires
+    number-of-requires
     returns
     returns-2)

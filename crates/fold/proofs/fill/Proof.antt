@@ -7,25 +7,36 @@ use native.Mathlib.Numerals.{add-one}
 use native.Mathlib.Omega.{arith}
 use lib.ListN.{length, take, length-set}
 use lib.Seq.{take-all}
-use Rattle.definitions.specs.Fold.{resultAt, byteAt, badPlaces}
+use Rattle.definitions.specs.Format.{binary64}
+use Rattle.definitions.specs.Division.{Divisor}
+use Rattle.definitions.specs.Fold.{badPlaces}
 use Rattle.definitions.specs.declared.Kind.{Kind}
-use Rattle.lists.proofs.Front.{front, front-more, front-all, count-marked, count-unmarked}
-use Rattle.lists.specs.declared.Place.{Place}
-use Rattle.lists.proofs.fill.Statement.{statement}
-use Rattle.lists.proofs.fill.Tie as tie
+use Rattle.fold.proofs.Front.{front, front-more, front-all, count-marked, count-unmarked}
+use Rattle.operands.specs.Operand.{divisorIn}
+use Rattle.fold.specs.Places.{placeBy}
+use Rattle.fold.specs.declared.Place.{Place}
+use Rattle.fold.proofs.fill.Statement.{statement}
+use Rattle.fold.proofs.fill.Tie as tie
+
+-- what each place gets
+abbrev valueBy : Kind → Divisor → ℕ → ℕ
+valueBy κ d x = placeBy κ d x .value
+
+abbrev byteBy : Kind → Divisor → ℕ → ℕ
+byteBy κ d x = placeBy κ d x .byte
 
 -- what holds after i places
-record Passed (κ : Kind) (y : ℕ) (xs results₀ quotients₀ results quotients : List ℕ) (marked i : ℕ) : Type 0 where
+record Passed (κ : Kind) (d : Divisor) (xs results₀ quotients₀ results quotients : List ℕ) (marked i : ℕ) : Type 0 where
   within : i ≤ length xs
-  values : results ≡ front (resultAt κ y) xs results₀ i
-  bytes : quotients ≡ front (byteAt κ y) xs quotients₀ i
+  values : results ≡ front (valueBy κ d) xs results₀ i
+  bytes : quotients ≡ front (byteBy κ d) xs quotients₀ i
   count : marked ≡ badPlaces (take i xs)
   few : marked ≤ i
   as-many-results : length results ≡ length xs
   as-many-quotients : length quotients ≡ length xs
 
 abbrev Inv-loop : tie.InvT-loop
-Inv-loop x results₀ quotients₀ y kind marked₀ i₀ results quotients marked i = Passed kind y x results₀ quotients₀ results quotients marked i
+Inv-loop x results₀ quotients₀ y kind marked₀ i₀ results quotients marked i = Passed kind (divisorIn (binary64 .smallest) y) x results₀ quotients₀ results quotients marked i
 
 abbrev μ-loop : tie.MeasureT-loop
 μ-loop x results₀ quotients₀ y kind marked₀ i₀ results quotients marked i = length x - i
@@ -77,15 +88,16 @@ loop-again c =
     let s = c .before .before .before .before .before .before .before .before in
     let p = c .before .place-of in
     let xs = s .args .x .now in
+    let d = divisorIn (binary64 .smallest) (s .args .y) in
     let h : l .i < length xs = omega arith in
     record {
       within = omega arith;
-      values = rw (add-one (l .i), p .ensures, l .inv .values) (front-more (resultAt (s .args .kind) (s .args .y)) xs (s .args .results .now) (l .i) h (s .pre .1));
-      bytes = rw (add-one (l .i), p .ensures, l .inv .bytes) (front-more (byteAt (s .args .kind) (s .args .y)) xs (s .args .quotients .now) (l .i) h (s .pre .2));
+      values = rw (add-one (l .i), p .ensures, l .inv .values) (front-more (valueBy (s .args .kind) d) xs (s .args .results .now) (l .i) h (s .pre .1));
+      bytes = rw (add-one (l .i), p .ensures, l .inv .bytes) (front-more (byteBy (s .args .kind) d) xs (s .args .quotients .now) (l .i) h (s .pre .2));
       count =
           ⊎-elim
-          (λ w. w .1 ∙ count-marked (s .args .kind) (s .args .y) xs (l .i) (l .marked) h (l .inv .count) (sym (ap (λ (q : Place). q .byte) (p .ensures)) ∙ w .0 .taken))
-          (λ w. w .1 ∙ count-unmarked (s .args .kind) (s .args .y) xs (l .i) (l .marked) h (l .inv .count) (λ e. w .0 .left (ap (λ (q : Place). q .byte) (p .ensures) ∙ e)))
+          (λ w. w .1 ∙ count-marked (s .args .kind) d xs (l .i) (l .marked) h (l .inv .count) (sym (ap (λ (q : Place). q .byte) (p .ensures)) ∙ w .0 .taken))
+          (λ w. w .1 ∙ count-unmarked (s .args .kind) d xs (l .i) (l .marked) h (l .inv .count) (λ e. w .0 .left (ap (λ (q : Place). q .byte) (p .ensures) ∙ e)))
           (c .if1 .came);
       few = ⊎-elim (λ w. omega arith) (λ w. omega arith) (c .if1 .came);
       as-many-results = simp length-set (omega arith);
@@ -103,10 +115,11 @@ returns c =
     let l = c .before .loop in
     let s = c .before .before .before .before .before in
     let xs = s .args .x .now in
+    let d = divisorIn (binary64 .smallest) (s .args .y) in
     let e : l .i ≡ length xs = omega arith in
     record {
-      values = l .inv .values ∙ front-all (resultAt (s .args .kind) (s .args .y)) xs (s .args .results .now) (l .i) e (s .pre .1);
-      bytes = l .inv .bytes ∙ front-all (byteAt (s .args .kind) (s .args .y)) xs (s .args .quotients .now) (l .i) e (s .pre .2);
+      values = l .inv .values ∙ front-all (valueBy (s .args .kind) d) xs (s .args .results .now) (l .i) e (s .pre .1);
+      bytes = l .inv .bytes ∙ front-all (byteBy (s .args .kind) d) xs (s .args .quotients .now) (l .i) e (s .pre .2);
       count = l .inv .count ∙ ap badPlaces (take-all (l .i) xs (omega arith));
     }
 

@@ -1,40 +1,73 @@
--- `place_of` meets its contract: an answer that finished gives its own value and quotient, and a refusal the marked place. Assumes nothing.
-use mathlib.Core.Path.{sym, ap, _∙_}
-use native.Mathlib.Omega.{arith}
-use Rattle.definitions.specs.Answers.{remainderMeaning}
-use Rattle.definitions.specs.Format.{binary64}
-use Rattle.lists.proofs.OnePlace.{finished, refused, finished-small}
+-- `place_of` meets its contract: a NaN or infinite dividend gets the marked place, and any other its remainder. Assumes nothing.
+use mathlib.Core.Path.{_≡_, sym, _∙_}
+use mathlib.Core.Bool.{false}
+use mathlib.Core.Logic.{⊎-elim}
 use borrow.Author.Needs.{needs}
-use Rattle.lists.proofs.place_of.Statement.{statement}
-use Rattle.lists.proofs.place_of.Tie as tie
+use Rattle.definitions.specs.Fold.{bad}
+use Rattle.formats.proofs.Sounds.{sound64}
+use Rattle.fold.proofs.OnOperands.{bad-told, dividend-stands, written}
+use Rattle.fold.proofs.place_of.Statement.{statement}
+use Rattle.fold.proofs.place_of.Tie as tie
 
-remainder64-requires : tie.Need-remainder64-requires
-remainder64-requires c κs = search needs
+of-pattern-requires : tie.Need-of-pattern-requires
+of-pattern-requires c κs = search needs
 
-enum-known-value : tie.Need-enum-known-value
-enum-known-value c = search needs
+is-nan-requires : tie.Need-is-nan-requires
+is-nan-requires c κs = search needs
 
-cast-t8 : tie.Need-cast-t8
-cast-t8 c =
-    let r = c .before .before .before in
-    let s = r .before in
-    omega (arith, finished-small (s .args .kind) (s .args .y) (s .args .x) (s .pre) _ _ (ap (remainderMeaning binary64) (sym (c .before .value .given .1)) ∙ r .remainder64 .ensures))
-
-enum-told : tie.Need-enum-told
-enum-told c = search needs
+is-infinite-requires : tie.Need-is-infinite-requires
+is-infinite-requires c κs = search needs
 
 returns : tie.Need-returns
 returns c =
-    let r = c .before .before .before in
-    let s = r .before in
-    finished (s .args .kind) (s .args .y) (s .args .x) (s .pre) _ _ (ap (remainderMeaning binary64) (sym (c .before .value .given .1)) ∙ r .remainder64 .ensures)
+    let n = c .before in
+    let o = n .before in
+    let told = bad-told (o .before .args .x) (o .of-pattern .result .operand) (o .of-pattern .ensures) in
+    ⊎-elim
+    (λ w. rw (← told, ← n .is-nan .ensures, w .taken))
+    (λ w. rw (← told, ← n .is-nan .ensures, w .0 .left, ← w .1 .ensures, w .2 .taken))
+    (c .if1 .came)
+
+-- a dividend that passes both tests
+good : (e : tie.Else2) → bad (e .before .before .before .before .before .args .x) ≡ false
+good e =
+    let n = e .before .before .before in
+    let o = n .before in
+    sym (bad-told (o .before .args .x) (o .of-pattern .result .operand) (o .of-pattern .ensures)) ∙ rw (← n .is-nan .ensures, e .before .before .if1 .left, ← e .before .is-infinite .ensures, e .if2 .left)
+
+shape-requires : tie.Need-shape-requires
+shape-requires c κs = search needs
+
+divide-by-requires : tie.Need-divide-by-requires
+divide-by-requires c κs =
+    let e = c .before in
+    let o = e .before .before .before .before in
+    let s = o .before in
+    rw (c .shape .ensures) (sound64, dividend-stands (s .args .x) (o .of-pattern .result .operand) (o .of-pattern .ensures) (good e), s .pre)
+
+cast-t11 : tie.Need-cast-t11
+cast-t11 c = search needs
 
 returns-2 : tie.Need-returns-2
 returns-2 c =
     let r = c .before .before in
-    let s = r .before in
-    refused (s .args .kind) (s .args .y) (s .args .x) (s .pre) _ (ap (remainderMeaning binary64) (sym (c .enum-told .given .1)) ∙ r .remainder64 .ensures)
+    let h = r .before in
+    let e = h .before in
+    let o = e .before .before .before .before in
+    let s = o .before in
+    written (s .args .x) (o .of-pattern .result .operand) (o .of-pattern .ensures) (good e) (s .args .kind) (s .args .y) (r .divide-by .result .value) (r .divide-by .result .quotient) (s .pre)
+    (rw (h .shape .ensures) at (r .divide-by .ensures .0))
+    (rw (h .shape .ensures) at (r .divide-by .ensures .1))
 
 pub place-of-spec : {M : Type 1} → statement M
 place-of-spec =
-    tie.close (tie.spec remainder64-requires enum-known-value cast-t8 enum-told returns returns-2)
+    tie.close
+    (tie.spec
+    of-pattern-requires
+    is-nan-requires
+    is-infinite-requires
+    returns
+    shape-requires
+    divide-by-requires
+    cast-t11
+    returns-2)

@@ -7,6 +7,8 @@ use lib.ListN.{length, drop}
 use Rattle.definitions.specs.declared.Kind.the-variants.{Truncated}
 use Rattle.definitions.specs.Format.{binary64}
 use Rattle.definitions.specs.Line.{answerLine}
+use Rattle.laws.proofs.Regular.{regular64}
+use Rattle.laws.proofs.Small.{remainder-small}
 use Rattle.hex.specs.Field.{fieldOf}
 use Rattle.lines.specs.Output.{outputOf}
 use Rattle.lines.proofs.OneDigit.{quotient-digit}
@@ -92,7 +94,7 @@ remainder64-requires : tie.Need-remainder64-requires
 remainder64-requires c κs = search needs
 
 line-of-answer-requires : tie.Need-line-of-answer-requires
-line-of-answer-requires c κs = rw (c .remainder64 .ensures) (quotient-digit binary64 Truncated _ _)
+line-of-answer-requires c κs = rw (c .remainder64 .ensures) (remainder-small binary64 regular64 Truncated _ _, quotient-digit binary64 Truncated _ _)
 
 returns-5 : tie.Need-returns-5
 returns-5 c =

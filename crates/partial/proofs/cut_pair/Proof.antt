@@ -11,12 +11,15 @@ use mir.Val.{toZ, ofZ}
 use mir.ValLaws.{toZ-ofZ, toZ-pos}
 use Rattle.chains.proofs.Step.{sized-bounds}
 use Rattle.digits.proofs.Signed.{small-back, sub-fits, sub-is, mag-sub}
+use Rattle.definitions.specs.Format.{x87}
 use Rattle.definitions.specs.declared.Kind.the-variants.{Truncated}
 use Rattle.division.specs.Divided.{dividedOf}
+use Rattle.operands.specs.Operand.{Ready}
+use Rattle.formats.proofs.Sounds.{sound80}
+use Rattle.formats.proofs.Standing.{ready}
 use Rattle.pairs.proofs.TwoOperands.{not-negative}
-use Rattle.pairs.specs.Pair.{Ready, settledOf}
+use Rattle.pairs.specs.Pair.{settledOf}
 use Rattle.pairs.specs.declared.Left.{Left}
-use Rattle.partial.proofs.Standing.{stands-ready}
 use Rattle.partial.proofs.Pairs.{at-least, cut-pair-is}
 use borrow.Author.Needs.{needs}
 use Rattle.partial.proofs.cut_pair.Statement.{statement}
@@ -24,10 +27,10 @@ use Rattle.partial.proofs.cut_pair.Tie as tie
 
 module _ (s : tie.Start) where
   x-ready : Ready (s .args .x)
-  x-ready = stands-ready (s .args .x) (s .pre .0)
+  x-ready = ready x87 sound80 (s .args .x) (s .pre .0)
 
   y-ready : Ready (s .args .y)
-  y-ready = stands-ready (s .args .y) (s .pre .1)
+  y-ready = ready x87 sound80 (s .args .y) (s .pre .1)
 
   small : s .args .size ≤ 63
   small = sized-bounds (s .args .size) (s .pre .2) .1

@@ -1,11 +1,13 @@
 -- `zk_scale64` meets its contract: what it writes is what `scale64` tells. Assumes nothing.
 use mathlib.Core.Path.{_≡_}
+use lib.Dec.{lit≤}
+use mir.Syntax.{w32}
+use mir.ValLaws.{toZ-ofZ}
 use Rattle.definitions.specs.Format.{binary64}
 use Rattle.definitions.specs.Scale.{scaleReport}
 use Rattle.definitions.specs.Answers.{scaleMeaning}
+use Rattle.laws.proofs.Regular.{regular64}
 use Rattle.export_scaling.proofs.WrittenScale.{scaled, refused}
-use mir.Syntax.{w32}
-use mir.ValLaws.{toZ-ofZ}
 use borrow.Author.Needs.{needs}
 use Rattle.export_scaling.proofs.scale.zk_scale64.Statement.{statement}
 use Rattle.export_scaling.proofs.scale.zk_scale64.Tie as tie
@@ -26,19 +28,19 @@ says-number-requires c κs = search needs
 enum-known-why : tie.Need-enum-known-why
 enum-known-why c = search needs
 
-refusal-number-requires : tie.Need-refusal-number-requires
-refusal-number-requires c κs = search needs
+number-of-requires : tie.Need-number-of-requires
+number-of-requires c κs = search needs
 
 returns : tie.Need-returns
 returns c =
     let v = c .before .before in
-    scaled binary64 _ _ (told (v .before .before)) _ _ _ (v .v .given .1) (c .says-number .ensures)
+    scaled binary64 regular64 _ _ _ (told (v .before .before)) _ _ (v .v .given .1) _ (c .says-number .ensures) (lit≤ tt)
 
 returns-2 : tie.Need-returns-2
 returns-2 c =
     let e = c .before .before .before .before in
     let a = e .before .args in
-    refused binary64 _ _ (told e) _ _ (a .value .now) (a .says .now) (c .before .before .why .given .1) (c .refusal-number .ensures)
+    refused binary64 regular64 _ _ _ (told e) _ _ (c .before .before .why .given .1) (c .number-of .ensures) (a .value .now) (a .says .now)
 
 pub zk-scale64-spec : {M : Type 1} → statement M
 zk-scale64-spec =
@@ -48,6 +50,6 @@ zk-scale64-spec =
     enum-known-v
     says-number-requires
     enum-known-why
-    refusal-number-requires
+    number-of-requires
     returns
     returns-2)

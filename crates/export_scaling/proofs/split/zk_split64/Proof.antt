@@ -1,8 +1,10 @@
 -- `zk_split64` meets its contract: what it writes is what `split64` tells. Assumes nothing.
-use Rattle.definitions.specs.Format.{binary64}
-use Rattle.export_scaling.proofs.WrittenSplit.{parted, refused}
+use lib.Dec.{lit≤}
 use mir.Syntax.{w32}
 use mir.ValLaws.{toZ-ofZ}
+use Rattle.definitions.specs.Format.{binary64}
+use Rattle.laws.proofs.Regular.{regular64}
+use Rattle.export_scaling.proofs.WrittenSplit.{parted, refused}
 use borrow.Author.Needs.{needs}
 use Rattle.export_scaling.proofs.split.zk_split64.Statement.{statement}
 use Rattle.export_scaling.proofs.split.zk_split64.Tie as tie
@@ -16,26 +18,21 @@ enum-known-s c = search needs
 enum-known-why : tie.Need-enum-known-why
 enum-known-why c = search needs
 
-refusal-number-requires : tie.Need-refusal-number-requires
-refusal-number-requires c κs = search needs
+number-of-requires : tie.Need-number-of-requires
+number-of-requires c κs = search needs
 
 returns : tie.Need-returns
 returns c =
-    parted binary64 _ _ (c .before .before .before .split64 .ensures) _ _ _ (c .before .s .given .1) (toZ-ofZ w32 _ (search needs))
+    let s = c .before in
+    parted binary64 regular64 _ _ (s .before .before .split64 .ensures) _ _ (s .s .given .1) _ (toZ-ofZ w32 _ (search needs)) (lit≤ tt)
 
 returns-2 : tie.Need-returns-2
 returns-2 c =
     let e = c .before .before .before .before in
     let a = e .before .args in
-    refused binary64 _ _ (e .split64 .ensures) _ _ (a .significand .now) (a .exponent .now) (c .before .before .why .given .1) (c .refusal-number .ensures)
+    refused binary64 regular64 _ _ (e .split64 .ensures) _ _ (c .before .before .why .given .1) (c .number-of .ensures) (a .significand .now) (a .exponent .now)
 
 pub zk-split64-spec : {M : Type 1} → statement M
 zk-split64-spec =
     tie.close
-    (tie.spec
-    split64-requires
-    enum-known-s
-    enum-known-why
-    refusal-number-requires
-    returns
-    returns-2)
+    (tie.spec split64-requires enum-known-s enum-known-why number-of-requires returns returns-2)

@@ -1,8 +1,10 @@
 -- `zk_split80` meets its contract: what it writes is what `split80` tells. Assumes nothing.
 use native.Mathlib.Omega.{arith}
-use Rattle.export_scaling.proofs.WrittenSplit.{parted80, refused80}
 use mir.Syntax.{w32}
 use mir.ValLaws.{toZ-ofZ}
+use Rattle.definitions.specs.Format.{x87}
+use Rattle.laws.proofs.Regular.{regular80}
+use Rattle.export_scaling.proofs.WrittenSplit.{significand-small, parted80, refused80}
 use borrow.Author.Needs.{needs}
 use Rattle.export_scaling.proofs.split.zk_split80.Statement.{statement}
 use Rattle.export_scaling.proofs.split.zk_split80.Tie as tie
@@ -13,21 +15,27 @@ split80-requires c κs = search needs
 enum-known-s : tie.Need-enum-known-s
 enum-known-s c = search needs
 
+cast-significandw : tie.Need-cast-significandw
+cast-significandw c =
+    let s = c .before .before in
+    omega (arith, significand-small x87 regular80 _ _ (s .before .before .split80 .ensures) _ _ (s .s .given .1))
+
 enum-known-why : tie.Need-enum-known-why
 enum-known-why c = search needs
 
-refusal-number-requires : tie.Need-refusal-number-requires
-refusal-number-requires c κs = search needs
+number-of-requires : tie.Need-number-of-requires
+number-of-requires c κs = search needs
 
 returns : tie.Need-returns
 returns c =
-    parted80 _ _ (c .before .before .before .split80 .ensures) _ _ _ (c .before .s .given .1) (toZ-ofZ w32 _ (search needs)) (omega arith)
+    let s = c .before .before in
+    parted80 x87 regular80 _ _ (s .before .before .split80 .ensures) _ _ (s .s .given .1) _ (toZ-ofZ w32 _ (search needs)) (omega arith)
 
 returns-2 : tie.Need-returns-2
 returns-2 c =
     let e = c .before .before .before .before in
     let a = e .before .args in
-    refused80 _ _ (e .split80 .ensures) _ _ (a .significand .now) (a .significandw .now) (a .exponent .now) (c .before .before .why .given .1) (c .refusal-number .ensures)
+    refused80 x87 regular80 _ _ (e .split80 .ensures) _ _ (c .before .before .why .given .1) (c .number-of .ensures) (a .significand .now) (a .significandw .now) (a .exponent .now)
 
 pub zk-split80-spec : {M : Type 1} → statement M
 zk-split80-spec =
@@ -35,7 +43,8 @@ zk-split80-spec =
     (tie.spec
     split80-requires
     enum-known-s
+    cast-significandw
     enum-known-why
-    refusal-number-requires
+    number-of-requires
     returns
     returns-2)

@@ -1,10 +1,10 @@
 -- `line_of_answer` meets its contract, case by case. Assumes nothing.
-use mathlib.Core.Path.{sym, subst}
-use Prim.Native.Nat.{_≤_}
+use mathlib.Core.Path.{_≡_, sym, subst}
+use Prim.Native.Nat.{_≤_, _<_, _^_}
 use native.Mathlib.Omega.{arith}
 use borrow.Author.Needs.{needs}
 use Rattle.definitions.specs.Format.{binary64}
-use Rattle.definitions.specs.Answers.{remainderMeaning}
+use Rattle.definitions.specs.Answers.{remainderMeaning, joined}
 use Rattle.definitions.specs.Line.{answerLine}
 use Rattle.definitions.specs.declared.RemainderAnswer.{RemainderAnswer}
 use Rattle.lines.proofs.OneDigit.{refusal-digit}
@@ -14,12 +14,18 @@ use Rattle.lines.proofs.output.line_of_answer.Tie as tie
 enum-known-answer : tie.Need-enum-known-answer
 enum-known-answer c = search needs
 
--- the quotient bits that are quotientBits
+-- what is shown of the answer: quotient bits in one digit, and a value of one word
 one-digit : (c : tie.After-known-told) → c .before .answer .given .0 .1 .0 ≤ 9
 unfolding remainderMeaning
 one-digit c =
     let s = c .before .before .before in
-    subst (λ (a : RemainderAnswer). remainderMeaning binary64 a .quotient ≤ 9) (c .before .answer .given .1) (s .pre)
+    subst (λ (a : RemainderAnswer). remainderMeaning binary64 a .quotient ≤ 9) (c .before .answer .given .1) (s .pre .1)
+
+one-word : (c : tie.After-known-told) → joined (c .before .answer .given .0 .0) < 2 ^ 64
+unfolding remainderMeaning
+one-word c =
+    let s = c .before .before .before in
+    subst (λ (a : RemainderAnswer). remainderMeaning binary64 a .value < 2 ^ 64) (c .before .answer .given .1) (s .pre .0)
 
 cast-digits-line : tie.Need-cast-digits-line
 cast-digits-line c = let q = one-digit c in omega arith
@@ -33,22 +39,25 @@ digits-line-requires c κs = search needs
 enum-known-answer-2 : tie.Need-enum-known-answer-2
 enum-known-answer-2 c = search needs
 
-refusal-number-requires : tie.Need-refusal-number-requires
-refusal-number-requires c κs = search needs
+number-of-requires : tie.Need-number-of-requires
+number-of-requires c κs = search needs
 
 add-digits-line-2 : tie.Need-add-digits-line-2
-add-digits-line-2 c = rw (c .refusal-number .ensures) (omega (arith, refusal-digit (c .before .before .answer2 .given .0 .0)))
+add-digits-line-2 c = rw (c .number-of .ensures) (omega (arith, refusal-digit (c .before .before .answer2 .given .0 .0)))
 
 digits-line-requires-2 : tie.Need-digits-line-requires-2
 digits-line-requires-2 c κs = search needs
 
 returns : tie.Need-returns
 unfolding remainderMeaning answerLine
-returns c = rw (c .before .before .answer .given .1) (c .digits-line .ensures)
+returns c =
+    let w = one-word (c .before) in
+    let low : c .before .before .answer .given .0 .0 .low ≡ joined (c .before .before .answer .given .0 .0) = omega arith in
+    rw (c .before .before .answer .given .1, ← low) (c .digits-line .ensures)
 
 returns-2 : tie.Need-returns-2
 unfolding remainderMeaning answerLine
-returns-2 c = rw (c .before .before .before .answer2 .given .1, sym (c .before .refusal-number .ensures)) (c .digits-line2 .ensures)
+returns-2 c = rw (c .before .before .before .answer2 .given .1, sym (c .before .number-of .ensures)) (c .digits-line2 .ensures)
 
 pub line-of-answer-spec : {M : Type 1} → statement M
 line-of-answer-spec =
@@ -59,7 +68,7 @@ line-of-answer-spec =
     add-digits-line
     digits-line-requires
     enum-known-answer-2
-    refusal-number-requires
+    number-of-requires
     add-digits-line-2
     digits-line-requires-2
     returns

@@ -1,0 +1,4 @@
+pub mod Cases
+pub mod ByDivisor
+pub mod OfOperands
+pub mod OfPatterns

@@ -1,0 +1,29 @@
+-- `scale32` meets its contract: `scale_of` in the shape of binary32. Assumes nothing.
+use mir.Syntax.{w32}
+use mir.ValLaws.{toZ-ofZ}
+use Rattle.definitions.specs.Format.{binary32}
+use Rattle.definitions.specs.Scale.{scaleReport}
+use Rattle.formats.proofs.Sounds.{sound32}
+use Rattle.formats.proofs.Standing.{stands-pattern, class-pattern}
+use borrow.Author.Needs.{needs}
+use Rattle.scaling.proofs.scale.scale32.Statement.{statement}
+use Rattle.scaling.proofs.scale.scale32.Tie as tie
+
+of-pattern-requires : tie.Need-of-pattern-requires
+of-pattern-requires c κs = search needs
+
+shape-requires : tie.Need-shape-requires
+shape-requires c κs = search needs
+
+scale-of-requires : tie.Need-scale-of-requires
+scale-of-requires c κs = rw (c .shape .ensures) (sound32, stands-pattern binary32 sound32 (c .before .before .args .x) _ (c .before .of-pattern .ensures))
+
+returns : tie.Need-returns
+unfolding scaleReport
+returns c =
+    let s = c .before .before .before in
+    rw (← class-pattern binary32 sound32 (s .args .x) _ (c .before .before .of-pattern .ensures))
+    (rw (c .before .shape .ensures, toZ-ofZ w32 (s .args .power) (s .fits .power)) at (c .scale-of .ensures))
+
+pub scale32-spec : {M : Type 1} → statement M
+scale32-spec = tie.close (tie.spec of-pattern-requires shape-requires scale-of-requires returns)

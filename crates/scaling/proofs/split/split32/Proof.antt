@@ -1,0 +1,25 @@
+-- `split32` meets its contract: `split_of` in the shape of binary32. Assumes nothing.
+use Rattle.definitions.specs.Format.{binary32}
+use Rattle.definitions.specs.Scale.{splitReport}
+use Rattle.formats.proofs.Sounds.{sound32}
+use Rattle.formats.proofs.Standing.{stands-pattern, class-pattern}
+use borrow.Author.Needs.{needs}
+use Rattle.scaling.proofs.split.split32.Statement.{statement}
+use Rattle.scaling.proofs.split.split32.Tie as tie
+
+of-pattern-requires : tie.Need-of-pattern-requires
+of-pattern-requires c κs = search needs
+
+shape-requires : tie.Need-shape-requires
+shape-requires c κs = search needs
+
+split-of-requires : tie.Need-split-of-requires
+split-of-requires c κs = rw (c .shape .ensures) (sound32, stands-pattern binary32 sound32 (c .before .before .args .x) _ (c .before .of-pattern .ensures))
+
+returns : tie.Need-returns
+unfolding splitReport
+returns c =
+    rw (← class-pattern binary32 sound32 (c .before .before .before .args .x) _ (c .before .before .of-pattern .ensures)) (rw (c .before .shape .ensures) at (c .split-of .ensures))
+
+pub split32-spec : {M : Type 1} → statement M
+split32-spec = tie.close (tie.spec of-pattern-requires shape-requires split-of-requires returns)

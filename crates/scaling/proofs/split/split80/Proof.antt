@@ -1,0 +1,25 @@
+-- `split80` meets its contract: `split_of` in the shape of x87. Assumes nothing.
+use Rattle.definitions.specs.Format.{x87, words}
+use Rattle.definitions.specs.Scale.{splitReport}
+use Rattle.formats.proofs.Sounds.{sound80}
+use Rattle.formats.proofs.Standing.{stands-pattern, class-pattern}
+use borrow.Author.Needs.{needs}
+use Rattle.scaling.proofs.split.split80.Statement.{statement}
+use Rattle.scaling.proofs.split.split80.Tie as tie
+
+of-pattern-requires : tie.Need-of-pattern-requires
+of-pattern-requires c κs = search needs
+
+shape-requires : tie.Need-shape-requires
+shape-requires c κs = search needs
+
+split-of-requires : tie.Need-split-of-requires
+split-of-requires c κs = rw (c .shape .ensures) (sound80, stands-pattern x87 sound80 (words (c .before .before .args .xw) (c .before .before .args .x)) _ (c .before .of-pattern .ensures))
+
+returns : tie.Need-returns
+unfolding splitReport
+returns c =
+    rw (← class-pattern x87 sound80 (words (c .before .before .before .args .xw) (c .before .before .before .args .x)) _ (c .before .before .of-pattern .ensures)) (rw (c .before .shape .ensures) at (c .split-of .ensures))
+
+pub split80-spec : {M : Type 1} → statement M
+split80-spec = tie.close (tie.spec of-pattern-requires shape-requires split-of-requires returns)

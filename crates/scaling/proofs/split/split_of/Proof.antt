@@ -1,0 +1,87 @@
+-- `split_of` meets its contract: what is refused, and a value's two parts. Assumes nothing.
+use mathlib.Core.Path.{subst}
+use native.Mathlib.Omega.{arith}
+use Rattle.digits.proofs.Signed.{small-back}
+use Rattle.definitions.specs.Numbers.{first}
+use Rattle.definitions.specs.Format.{Format}
+use Rattle.definitions.specs.Scale.{splitOf}
+use Rattle.definitions.specs.Answers.{splitMeaning}
+use Rattle.operands.specs.Operand.{classIn, valueIn}
+use Rattle.formats.specs.Shape.{formatOf}
+use Rattle.formats.specs.Stands.{Stands}
+use Rattle.scaling.proofs.Places.{Placed, stands-unpacked, placed}
+use Rattle.scaling.proofs.Parts.{parts-stand, parts-report}
+use borrow.Author.Needs.{needs}
+use Rattle.scaling.proofs.split.split_of.Statement.{statement}
+use Rattle.scaling.proofs.split.split_of.Tie as tie
+
+abbrev f : tie.Start → Format
+f s = formatOf (s .args .shape)
+
+-- the operand that is a value
+value : (c : tie.After-known-told) → (let s = c .before .before .before in
+    Placed (f s) (valueIn (f s .smallest) (c .before .x .given .0 .0)) (c .before .x .given .0 .0))
+value c =
+    let s = c .before .before .before in
+    let u = c .before .x .given .0 .0 in
+    placed (f s) (s .pre .0) u (stands-unpacked (f s) (s .pre .0) u (subst (Stands (f s)) (c .before .x .given .1) (s .pre .1)))
+
+enum-told : tie.Need-enum-told
+enum-told c = search needs
+
+enum-told-2 : tie.Need-enum-told-2
+enum-told-2 c = search needs
+
+enum-told-3 : tie.Need-enum-told-3
+enum-told-3 c = search needs
+
+enum-told-4 : tie.Need-enum-told-4
+enum-told-4 c = search needs
+
+enum-known-x : tie.Need-enum-known-x
+enum-known-x c = search needs
+
+pack-requires : tie.Need-pack-requires
+pack-requires c κs =
+    let s = c .before .before .before in
+    (s .pre .0, parts-stand (f s) (s .pre .0) _ _ (value c))
+
+returns : tie.Need-returns
+unfolding splitMeaning splitOf classIn first
+returns c = rw (c .enum-told .given .1)
+
+returns-2 : tie.Need-returns-2
+unfolding splitMeaning splitOf classIn first
+returns-2 c = rw (c .enum-told2 .given .1)
+
+returns-3 : tie.Need-returns-3
+unfolding splitMeaning splitOf classIn first
+returns-3 c = rw (c .enum-told3 .given .1)
+
+returns-4 : tie.Need-returns-4
+unfolding splitMeaning splitOf classIn first
+returns-4 c = rw (c .enum-told4 .given .1)
+
+returns-5 : tie.Need-returns-5
+unfolding splitMeaning classIn
+returns-5 c =
+    let s = c .before .before .before .before .before in
+    let v = value (c .before .before) in
+    rw (c .before .pack .ensures, c .before .before .before .x .given .1)
+    (parts-report (f s) (s .pre .0) _ _ v _ (small-back (c .before .before .before .x .given .0 .0 .exponent) (omega (arith, v .small))))
+
+pub split-of-spec : {M : Type 1} → statement M
+split-of-spec =
+    tie.close
+    (tie.spec
+    enum-told
+    enum-told-2
+    enum-told-3
+    enum-told-4
+    enum-known-x
+    pack-requires
+    returns
+    returns-2
+    returns-3
+    returns-4
+    returns-5)
