@@ -1,11 +1,10 @@
 -- A place on the code's operands: what its dividend stands for, and that its value is one word. Assumes nothing.
-use mathlib.Core.Path.{_≡_, refl, ap, _∙_}
+use mathlib.Core.Path.{_≡_, ap, _∙_}
 use mathlib.Core.Bool.{false, _||_}
 use Prim.Native.Nat.{ℕ, _^_, _<_}
 use native.Mathlib.Omega.{arith}
-use Rattle.digits.proofs.Tests.{clash}
-use Rattle.definitions.specs.Class.{Value, finite}
-use Rattle.definitions.specs.Format.{Format, Representable, binary64, classOf, patternOf}
+use Rattle.definitions.specs.Class.{finite}
+use Rattle.definitions.specs.Format.{Representable, binary64, classOf, patternOf}
 use Rattle.definitions.specs.Numbers.{first, isZero}
 use Rattle.definitions.specs.Division.{finish, dividendOf, divisorOf}
 use Rattle.definitions.specs.Remainder.{quotientBits}
@@ -13,45 +12,17 @@ use Rattle.definitions.specs.Answers.{joined}
 use Rattle.definitions.specs.Fold.{dividingList, bad}
 use Rattle.definitions.specs.declared.Kind.{Kind}
 use Rattle.definitions.specs.declared.Pattern.{Pattern}
-use Rattle.operands.specs.Operand.{operandOf, classIn, valueIn, valueOperand, divisorOperand, divisorIn}
+use Rattle.operands.specs.Operand.{operandOf, valueOperand, divisorOperand, divisorIn}
 use Rattle.operands.specs.declared.Operand.{Operand}
-use Rattle.operands.specs.declared.Operand.the-variants.{Unsupported, Nan, Infinite, Zero, Finite}
 use Rattle.operands.specs.declared.Divisor.{Divisor}
-use Rattle.operands.specs.declared.Divisor.the-variants.{Unbounded, By}
-use Rattle.laws.proofs.Division.{finish-held}
 use Rattle.laws.proofs.RoundTrip.{pattern-small, read-held}
 use Rattle.checks.specs.Verdict.{nanOperand, infiniteOperand}
 use Rattle.checks.proofs.Judged.{nan-told, infinite-told, accepted-divisor}
-use Rattle.formats.specs.Shape.{Sound}
-use Rattle.formats.specs.Stands.{Stands, StandsValue, StandsDivisor}
-use Rattle.formats.proofs.Standing.{stands-finite, stands-pattern, stands-value, class-pattern, value-of, unpacks}
+use Rattle.formats.specs.Stands.{StandsValue, StandsDivisor}
+use Rattle.formats.proofs.Standing.{stands-pattern, stands-value, class-pattern, value-of, divisor-stands, divisor-is, finish-stands}
 use Rattle.formats.proofs.Sounds.{sound64}
 use Rattle.fold.specs.Places.{placeBy}
 use Rattle.fold.proofs.OnePlace.{good-finite}
-
--- what is left of a value by a divisor, in every format: the format holds it
-module _ (f : Format) (ok : Sound f) where
-  finish-stands : (κ : Kind) (y : Divisor) (v : Value) → StandsDivisor f y → Representable f (v .count) → Representable f (finish κ (divisorIn (f .smallest) y) v .value .count)
-  unfolding finish classIn
-  finish-stands κ Unbounded v sy h = h
-  finish-stands κ (By u) v sy h = finish-held f κ (valueIn (f .smallest) u .count) v (unpacks f ok u sy .some) (sy .held) h
-
-  -- what an operand divides by, as the code holds it; a zero is refused before
-  divisor-stands : (y : Operand) → Stands f y → StandsDivisor f (divisorOperand y)
-  unfolding classIn
-  divisor-stands Unsupported s = tt
-  divisor-stands Nan s = tt
-  divisor-stands (Infinite n) s = tt
-  divisor-stands (Zero n) s = tt
-  divisor-stands (Finite u) s = stands-finite f ok (valueIn (f .smallest) u) (Finite u) s refl
-
-  divisor-is : (y : Operand) → isZero (classIn (f .smallest) y) ≡ false → divisorIn (f .smallest) (divisorOperand y) ≡ divisorOf (classIn (f .smallest) y)
-  unfolding classIn
-  divisor-is Unsupported z = refl
-  divisor-is Nan z = refl
-  divisor-is (Infinite n) z = refl
-  divisor-is (Zero n) z = clash (cc)
-  divisor-is (Finite u) z = refl
 
 -- a pattern of one word is its low word
 low-word : (p : Pattern) (n : ℕ) → joined p ≡ n → n < 2 ^ 64 → p .low ≡ n

@@ -14,14 +14,20 @@ use Rattle.digits.proofs.Signed.{mag-add}
 use Rattle.digits.proofs.Tests.{clash}
 use Rattle.definitions.specs.Class.{Value, Class, unsupported, nan, infinite, finite}
 use Rattle.definitions.specs.Format.{Format, Representable, Holds, classOf, reach}
+use Rattle.definitions.specs.Numbers.{isZero}
+use Rattle.definitions.specs.Division.{finish, divisorOf}
+use Rattle.definitions.specs.declared.Kind.{Kind}
 use Rattle.operands.specs.declared.Operand.{Operand}
 use Rattle.operands.specs.declared.Operand.the-variants.{Unsupported, Nan, Infinite, Zero, Finite}
 use Rattle.operands.specs.declared.Unpacked.{Unpacked}
-use Rattle.operands.specs.Operand.{operandOf, unpackedOf, classIn, valueIn, valueOperand, Ready, Unpacks}
+use Rattle.operands.specs.declared.Divisor.{Divisor}
+use Rattle.operands.specs.declared.Divisor.the-variants.{Unbounded, By}
+use Rattle.operands.specs.Operand.{operandOf, unpackedOf, classIn, valueIn, valueOperand, divisorOperand, divisorIn, Ready, Unpacks}
 use Rattle.operands.proofs.Lead.{class-back, by-count, some-operand, lead, lead-top, lead-word}
+use Rattle.laws.proofs.Division.{finish-held}
 use Rattle.laws.proofs.RoundTrip.{read-holds}
 use Rattle.formats.specs.Shape.{Sound}
-use Rattle.formats.specs.Stands.{Stands, StandsValue}
+use Rattle.formats.specs.Stands.{Stands, StandsValue, StandsDivisor}
 
 -- the smallest place of a regular format is as far below one as its bias and its precision say
 small-of : (s : ℤ) (k : ℕ) → s +ℤ pos k ≡ pos 0 → mag s ≤ k
@@ -79,6 +85,26 @@ module _ (f : Format) (ok : Sound f) where
   pub value-class : (o : Operand) → StandsValue f o → classIn (f .smallest) o ≡ finite (valueOperand (f .smallest) o)
   value-class o s = ap (classIn (f .smallest)) (s .is) ∙ class-of (finite (valueOperand (f .smallest) o)) (s .held)
 
+  pub stands-unpacked : (u : Unpacked) → Stands f (Finite u) → StandsValue f (Finite u)
+  unfolding classIn
+  stands-unpacked u s = stands-finite (valueIn (f .smallest) u) (Finite u) s refl
+
+  -- what an operand divides by, as the code holds it; a zero is refused before
+  pub divisor-stands : (y : Operand) → Stands f y → StandsDivisor f (divisorOperand y)
+  divisor-stands Unsupported s = tt
+  divisor-stands Nan s = tt
+  divisor-stands (Infinite n) s = tt
+  divisor-stands (Zero n) s = tt
+  divisor-stands (Finite u) s = stands-unpacked u s
+
+  pub divisor-is : (y : Operand) → isZero (classIn (f .smallest) y) ≡ false → divisorIn (f .smallest) (divisorOperand y) ≡ divisorOf (classIn (f .smallest) y)
+  unfolding classIn
+  divisor-is Unsupported z = refl
+  divisor-is Nan z = refl
+  divisor-is (Infinite n) z = refl
+  divisor-is (Zero n) z = clash (cc)
+  divisor-is (Finite u) z = refl
+
   -- an unpacked value: its count is not zero, and it is unpacked from it
   pub unpacks : (u : Unpacked) → StandsValue f (Finite u) → Unpacks (f .smallest) (valueIn (f .smallest) u) u
   unfolding classIn operandOf
@@ -106,3 +132,9 @@ module _ (f : Format) (ok : Sound f) where
         word = rw a (lead-word (v .count) (p .some));
         small = rw e (omega (arith, mag-add (f .smallest) (pos (size (v .count) - 1)), smallest-small, range, ok .narrow, ok .short));
       }
+
+  -- what is left of a value by a divisor is a value again
+  pub finish-stands : (κ : Kind) (y : Divisor) (v : Value) → StandsDivisor f y → Representable f (v .count) → Representable f (finish κ (divisorIn (f .smallest) y) v .value .count)
+  unfolding finish classIn
+  finish-stands κ Unbounded v sy h = h
+  finish-stands κ (By u) v sy h = finish-held f κ (valueIn (f .smallest) u .count) v (unpacks u sy .some) (sy .held) h

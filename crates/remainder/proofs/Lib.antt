@@ -1,4 +1,3 @@
-pub mod Cases
 pub mod ByDivisor
 pub mod OfOperands
 pub mod OfPatterns

@@ -1,11 +1,9 @@
 -- The remainder of two operands, in every format: what the verdict says of them, and what each verdict is answered with. Assumes nothing.
-use mathlib.Core.Path.{_≡_, refl}
-use mathlib.Core.Bool.{false}
+use mathlib.Core.Path.{_≡_}
 use Prim.Native.Nat.{ℕ}
-use Rattle.digits.proofs.Tests.{clash}
 use Rattle.definitions.specs.Format.{Format}
-use Rattle.definitions.specs.Numbers.{first, dividing, isZero}
-use Rattle.definitions.specs.Division.{finish, divisorOf}
+use Rattle.definitions.specs.Numbers.{first, dividing}
+use Rattle.definitions.specs.Division.{finish}
 use Rattle.definitions.specs.Remainder.{remainderOf}
 use Rattle.definitions.specs.Answers.{remainderMeaning, refusalNumber, joined}
 use Rattle.definitions.specs.declared.Kind.{Kind}
@@ -13,33 +11,15 @@ use Rattle.definitions.specs.declared.Refusal.{Refusal}
 use Rattle.definitions.specs.declared.Pattern.{Pattern}
 use Rattle.definitions.specs.declared.RemainderAnswer.the-variants.{Finished, Refused}
 use Rattle.operands.specs.declared.Operand.{Operand}
-use Rattle.operands.specs.declared.Operand.the-variants.{Unsupported, Nan, Infinite, Zero, Finite}
-use Rattle.operands.specs.Operand.{classIn, valueIn, valueOperand, divisorOperand, divisorIn}
+use Rattle.operands.specs.Operand.{classIn, valueOperand, divisorOperand, divisorIn}
 use Rattle.formats.specs.Shape.{Sound}
-use Rattle.formats.specs.Stands.{Stands, StandsValue, StandsDivisor}
-use Rattle.formats.proofs.Standing.{stands-finite}
+use Rattle.formats.specs.Stands.{Stands, StandsValue}
+use Rattle.formats.proofs.Standing.{stands-finite, divisor-is}
 use Rattle.laws.proofs.Order.{refusal-refuses}
 use Rattle.checks.proofs.Judged.{AcceptedPair, accepted-pair}
 use Rattle.remainder.proofs.ByDivisor.{Writes}
 
 module _ (f : Format) (ok : Sound f) where
-  -- what an operand divides by, as the code holds it; a zero is refused before
-  pub divisor-stands : (y : Operand) → Stands f y → StandsDivisor f (divisorOperand y)
-  unfolding classIn
-  divisor-stands Unsupported s = tt
-  divisor-stands Nan s = tt
-  divisor-stands (Infinite n) s = tt
-  divisor-stands (Zero n) s = tt
-  divisor-stands (Finite u) s = stands-finite f ok (valueIn (f .smallest) u) (Finite u) s refl
-
-  divisor-is : (y : Operand) → isZero (classIn (f .smallest) y) ≡ false → divisorIn (f .smallest) (divisorOperand y) ≡ divisorOf (classIn (f .smallest) y)
-  unfolding classIn
-  divisor-is Unsupported z = refl
-  divisor-is Nan z = refl
-  divisor-is (Infinite n) z = refl
-  divisor-is (Zero n) z = clash (cc)
-  divisor-is (Finite u) z = refl
-
   module _ (x y : Operand) (κ : Kind) where
     pub refused : (w : Refusal) → first (dividing (classIn (f .smallest) x) (classIn (f .smallest) y)) ≡ refusalNumber w
         → remainderMeaning f (Refused w) ≡ remainderOf f κ (classIn (f .smallest) x) (classIn (f .smallest) y)
@@ -56,4 +36,4 @@ module _ (f : Format) (ok : Sound f) where
       pub answered : (p : Pattern) (q : ℕ) → Writes f (joined p) q (finish κ (divisorIn (f .smallest) (divisorOperand y)) (valueOperand (f .smallest) x))
           → remainderMeaning f (Finished p q) ≡ remainderOf f κ (classIn (f .smallest) x) (classIn (f .smallest) y)
       unfolding remainderMeaning remainderOf
-      answered p q w = rw (none, ← divisor-is y (pair .divisor .not-zero)) (λ i. record { number = 0; value = w .0 i; quotient = w .1 i })
+      answered p q w = rw (none, ← divisor-is f ok y (pair .divisor .not-zero)) (λ i. record { number = 0; value = w .0 i; quotient = w .1 i })

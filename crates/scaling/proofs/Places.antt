@@ -15,8 +15,8 @@ use Rattle.operands.specs.declared.Operand.the-variants.{Finite}
 use Rattle.operands.specs.declared.Unpacked.{Unpacked}
 use Rattle.operands.proofs.Lead.{lead, lead-exact, place-is}
 use Rattle.formats.specs.Shape.{Sound}
-use Rattle.formats.specs.Stands.{Stands, StandsValue}
-use Rattle.formats.proofs.Standing.{unpacks, ready, stands-finite}
+use Rattle.formats.specs.Stands.{StandsValue}
+use Rattle.formats.proofs.Standing.{unpacks, ready}
 
 -- the largest exponent is not below the smallest place, and its own place is the last
 module _ (f : Format) (ok : Sound f) where
@@ -52,11 +52,6 @@ pub record Placed (f : Format) (v : Value) (u : Unpacked) : Type 0 where
   pub same : u .significand * 2 ^ placeIn (f .smallest) (u .exponent) ≡ v .count * 2 ^ 63
 
 module _ (f : Format) (ok : Sound f) (u : Unpacked) where
-  -- an unpacked operand is a value
-  pub stands-unpacked : Stands f (Finite u) → StandsValue f (Finite u)
-  unfolding classIn
-  stands-unpacked h = stands-finite f ok (valueIn (f .smallest) u) (Finite u) h refl
-
   pub placed : StandsValue f (Finite u) → Placed f (valueIn (f .smallest) u) u
   unfolding unpackedOf classIn
   placed h =

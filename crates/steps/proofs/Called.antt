@@ -6,10 +6,9 @@ use Prim.Native.Nat.{ℕ, _≤_, _<_}
 use native.Mathlib.Omega.{arith}
 use borrow.Author.Tests.{le-leb, lt-leb, not-false}
 use lib.Dec.{eqb, lit<}
-use Rattle.digits.proofs.Tests.{clash}
 use Rattle.definitions.specs.Class.{Class, finite}
 use Rattle.definitions.specs.Format.{Representable, x87, classOf, patternOf}
-use Rattle.definitions.specs.Numbers.{Check, first, accepted, dividing, isZero}
+use Rattle.definitions.specs.Numbers.{Check, first, accepted, dividing}
 use Rattle.definitions.specs.Division.{Outcome, dividendOf, divisorOf}
 use Rattle.definitions.specs.Remainder.{quotientBits}
 use Rattle.definitions.specs.Steps.{run}
@@ -23,11 +22,10 @@ use Rattle.chains.proofs.Run.{run-one}
 use Rattle.chains.proofs.Spent.{Verdict, refused, passed, refusal, numbered, result}
 use Rattle.checks.proofs.Judged.{AcceptedPair, refusal-some, passes, accepted-pair}
 use Rattle.operands.specs.declared.Operand.{Operand}
-use Rattle.operands.specs.declared.Operand.the-variants.{Unsupported, Nan, Infinite, Zero, Finite}
-use Rattle.operands.specs.Operand.{operandOf, classIn, valueIn, valueOperand, divisorOperand, divisorIn}
+use Rattle.operands.specs.Operand.{operandOf, classIn, valueOperand, divisorOperand, divisorIn}
 use Rattle.formats.specs.Stands.{Stands, StandsValue, StandsDivisor}
 use Rattle.formats.proofs.Sounds.{sound80}
-use Rattle.formats.proofs.Standing.{class-of, stands-finite, stands-pattern, class-pattern}
+use Rattle.formats.proofs.Standing.{class-of, stands-finite, stands-pattern, class-pattern, divisor-stands, divisor-is}
 use Rattle.pairs.proofs.Bits.{bits-low}
 use Rattle.steps.specs.Ran.{ranOf, ranReport, callReport}
 use Rattle.steps.specs.declared.run.Ran.{Ran}
@@ -88,23 +86,6 @@ module _ (u : ℕ) (κ : Kind) (n budget : ℕ) (a b : Class) where
 
 -- ---- what stands for the operands of an accepted call
 
--- what an operand divides by, as the code holds it; a zero is refused before
-divisor-stands : (y : Operand) → Stands x87 y → StandsDivisor x87 (divisorOperand y)
-unfolding classIn
-divisor-stands Unsupported s = tt
-divisor-stands Nan s = tt
-divisor-stands (Infinite n) s = tt
-divisor-stands (Zero n) s = tt
-divisor-stands (Finite u) s = stands-finite x87 sound80 (valueIn (x87 .smallest) u) (Finite u) s refl
-
-divisor-is : (y : Operand) → isZero (classIn (x87 .smallest) y) ≡ false → divisorIn (x87 .smallest) (divisorOperand y) ≡ divisorOf (classIn (x87 .smallest) y)
-unfolding classIn
-divisor-is Unsupported z = refl
-divisor-is Nan z = refl
-divisor-is (Infinite n) z = refl
-divisor-is (Zero n) z = clash (cc)
-divisor-is (Finite u) z = refl
-
 module _ (x y : Operand) (sx : Stands x87 x) (sy : Stands x87 y) (n : ℕ) (none : refusal nothing n (classIn (x87 .smallest) x) (classIn (x87 .smallest) y) ≡ 0) where
   right : (not (sized n) ≡ false) × (first (dividing (classIn (x87 .smallest) x) (classIn (x87 .smallest) y)) ≡ 0)
   right = passes _ _ (lit< tt) (passes _ _ (lit< tt) none .1)
@@ -114,7 +95,7 @@ module _ (x y : Operand) (sx : Stands x87 x) (sy : Stands x87 y) (n : ℕ) (none
 
   -- they are what a run asks for
   pub ready-call : StandsValue x87 x × StandsDivisor x87 (divisorOperand y) × (sized n ≡ true)
-  ready-call = (stands-finite x87 sound80 (pair .value) x sx (pair .dividend), divisor-stands y sy, not-false (sized n) (right .0))
+  ready-call = (stands-finite x87 sound80 (pair .value) x sx (pair .dividend), divisor-stands x87 sound80 y sy, not-false (sized n) (right .0))
 
   module _ (κ : Kind) (budget : ℕ) (t : Ran) (ran : t ≡ ranOf (run κ n budget (divisorIn (x87 .smallest) (divisorOperand y)) (valueOperand (x87 .smallest) x))) where
     -- what the run leaves can be written down
@@ -123,7 +104,7 @@ module _ (x y : Operand) (sx : Stands x87 x) (sy : Stands x87 y) (n : ℕ) (none
 
     pub ran-call : (u : ℕ) → accepted u ≡ true → ranReport u t ≡ callReport u κ n budget (classIn (x87 .smallest) x) (classIn (x87 .smallest) y)
     ran-call u ok =
-        let z = divisor-is y (pair .divisor .not-zero) in
+        let z = divisor-is x87 sound80 y (pair .divisor .not-zero) in
         accepted-call u κ n budget (classIn (x87 .smallest) x) (classIn (x87 .smallest) y) ok none t (rw z at ran)
         (rw z at (ran-held κ n x (ready-call .0) (divisorOperand y) (ready-call .1) budget))
 

@@ -7,7 +7,7 @@ use Rattle.operands.specs.declared.Operand.the-variants.{Finite}
 use Rattle.formats.specs.Shape.{formatOf}
 use Rattle.formats.specs.Stands.{StandsValue, StandsDivisor}
 use Rattle.formats.proofs.Standing.{value-stands, ready}
-use Rattle.remainder.proofs.Cases.{other-unbounded}
+use Rattle.operands.proofs.Cases.{other-unbounded}
 use Rattle.remainder.proofs.ByDivisor.{by-unbounded, zero-kept, left-stands, left-written}
 use borrow.Author.Needs.{needs}
 use Rattle.remainder.proofs.divided.divide_by.Statement.{statement}

@@ -4,7 +4,8 @@ use Rattle.definitions.specs.Numbers.{first, dividing}
 use Rattle.operands.specs.Operand.{classIn}
 use Rattle.formats.specs.Shape.{formatOf}
 use Rattle.checks.proofs.Judged.{refused-number, accepted-number}
-use Rattle.remainder.proofs.OfOperands.{divisor-stands, refused, dividend-stands, answered}
+use Rattle.formats.proofs.Standing.{divisor-stands}
+use Rattle.remainder.proofs.OfOperands.{refused, dividend-stands, answered}
 use borrow.Author.Needs.{needs}
 use Rattle.remainder.proofs.divided.remainder_of.Statement.{statement}
 use Rattle.remainder.proofs.divided.remainder_of.Tie as tie

@@ -18,7 +18,8 @@ use Rattle.operands.proofs.Operand.{the-type}
 use Rattle.formats.specs.Shape.{formatOf}
 use Rattle.formats.specs.Stands.{Stands, StandsValue}
 use Rattle.scaling.specs.Scaled.{scaledOf}
-use Rattle.scaling.proofs.Places.{Placed, stands-unpacked, placed}
+use Rattle.formats.proofs.Standing.{stands-unpacked}
+use Rattle.scaling.proofs.Places.{Placed, placed}
 use Rattle.scaling.proofs.Scaled.{scaled-stands, scaled-report}
 use borrow.Author.Needs.{needs}
 use Rattle.scaling.proofs.scale.scale_of.Statement.{statement}

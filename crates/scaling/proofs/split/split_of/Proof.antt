@@ -9,7 +9,8 @@ use Rattle.definitions.specs.Answers.{splitMeaning}
 use Rattle.operands.specs.Operand.{classIn, valueIn}
 use Rattle.formats.specs.Shape.{formatOf}
 use Rattle.formats.specs.Stands.{Stands}
-use Rattle.scaling.proofs.Places.{Placed, stands-unpacked, placed}
+use Rattle.formats.proofs.Standing.{stands-unpacked}
+use Rattle.scaling.proofs.Places.{Placed, placed}
 use Rattle.scaling.proofs.Parts.{parts-stand, parts-report}
 use borrow.Author.Needs.{needs}
 use Rattle.scaling.proofs.split.split_of.Statement.{statement}
