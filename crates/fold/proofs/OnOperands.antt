@@ -18,9 +18,9 @@ use Rattle.operands.specs.declared.Divisor.{Divisor}
 use Rattle.laws.proofs.RoundTrip.{pattern-small, read-held}
 use Rattle.checks.specs.Verdict.{nanOperand, infiniteOperand}
 use Rattle.checks.proofs.Judged.{nan-told, infinite-told, accepted-divisor}
-use Rattle.formats.specs.Stands.{StandsValue, StandsDivisor}
-use Rattle.formats.proofs.Standing.{stands-pattern, stands-value, class-pattern, value-of, divisor-stands, divisor-is, finish-stands}
-use Rattle.formats.proofs.Sounds.{sound64}
+use Rattle.packing.specs.Stands.{StandsValue, StandsDivisor}
+use Rattle.packing.proofs.Standing.{stands-pattern, stands-value, class-pattern, value-of, divisor-stands, divisor-is, finish-stands}
+use Rattle.shapes.proofs.Sounds.{sound64}
 use Rattle.fold.specs.Places.{placeBy}
 use Rattle.fold.proofs.OnePlace.{good-finite}
 

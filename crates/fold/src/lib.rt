@@ -16,7 +16,7 @@ ghost use Rattle.definitions.specs.Format.{binary64};
 ghost use Rattle.definitions.specs.Fold.{foldList};
 ghost use Rattle.definitions.specs.Answers.{refusalNumber};
 ghost use Rattle.operands.specs.Operand.{divisorIn};
-ghost use Rattle.formats.specs.Stands.{StandsDivisor};
+ghost use Rattle.packing.specs.Stands.{StandsDivisor};
 ghost use Rattle.fold.specs.Places.{foldMeaning, placeBy, Filled};
 
 // The number of the whole list, and how many places have a NaN or infinite dividend.

@@ -1,13 +1,13 @@
 // The interchange formats: the constants of each, named once, and the way from its patterns to operands.
-use crate::shape::Shape;
-use crate::unpack::unpack;
 use definitions::Layout;
 use definitions::Pattern;
 use operands::Operand;
+use packing::unpack::unpack;
+use shapes::shape::Shape;
 ghost use mathlib.Core.Path.{_≡_};
 ghost use Rattle.definitions.specs.Format.{binary16, binary32, binary64, classOf};
 ghost use Rattle.operands.specs.Operand.{operandOf};
-ghost use Rattle.formats.specs.Shape.{shapeOf};
+ghost use Rattle.shapes.specs.Shape.{shapeOf};
 
 // A value of binary16.
 pub struct Binary16 {

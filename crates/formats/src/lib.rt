@@ -1,8 +1,3 @@
-// Bit patterns taken apart and put together, for every format of one word of significand.
-// All formats meet in `Operand`, so everything above is written once.
+// The four formats: the constants of each, and the way from its patterns to operands.
 pub mod binary;
-pub mod fields;
-pub mod pack;
-pub mod shape;
-pub mod unpack;
 pub mod x87;

@@ -1,13 +1,13 @@
 // x87's 80-bit format: a 64-bit significand whose leading digit stands in it, and a 16-bit sign and exponent word.
-use crate::shape::Shape;
-use crate::unpack::unpack;
 use definitions::Layout;
 use definitions::Pattern;
 use operands::Operand;
+use packing::unpack::unpack;
+use shapes::shape::Shape;
 ghost use mathlib.Core.Path.{_≡_};
 ghost use Rattle.definitions.specs.Format.{x87, classOf, words};
 ghost use Rattle.operands.specs.Operand.{operandOf};
-ghost use Rattle.formats.specs.Shape.{shapeOf};
+ghost use Rattle.shapes.specs.Shape.{shapeOf};
 
 // A value of the format.
 pub struct X87 {

@@ -19,9 +19,9 @@ use Rattle.operands.specs.declared.Divisor.{Divisor}
 use Rattle.operands.specs.declared.Divisor.the-variants.{Unbounded, By}
 use Rattle.operands.proofs.Operand.{the-type}
 use Rattle.operands.proofs.Cases.{other-cases}
-use Rattle.formats.specs.Stands.{StandsValue, StandsDivisor}
-use Rattle.formats.proofs.Sounds.{sound80}
-use Rattle.formats.proofs.Standing.{unpacks}
+use Rattle.packing.specs.Stands.{StandsValue, StandsDivisor}
+use Rattle.shapes.proofs.Sounds.{sound80}
+use Rattle.packing.proofs.Standing.{unpacks}
 use Rattle.laws.proofs.Division.{finish-far}
 use Rattle.partial.specs.Stepped.{steppedOf}
 use Rattle.partial.specs.declared.Stepped.{Stepped}

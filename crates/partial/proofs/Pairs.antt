@@ -17,9 +17,9 @@ use Rattle.chains.proofs.Step.{sized-bounds}
 use Rattle.operands.specs.Operand.{normalOf, unpackedOf, valueIn, Unpacks}
 use Rattle.operands.specs.declared.Unpacked.{Unpacked}
 use Rattle.operands.specs.declared.Operand.the-variants.{Finite}
-use Rattle.formats.specs.Stands.{StandsValue}
-use Rattle.formats.proofs.Sounds.{sound80}
-use Rattle.formats.proofs.Standing.{unpacks}
+use Rattle.packing.specs.Stands.{StandsValue}
+use Rattle.shapes.proofs.Sounds.{sound80}
+use Rattle.packing.proofs.Standing.{unpacks}
 use Rattle.laws.proofs.Gap.{gap-near, gap-far, gap-exponents}
 use Rattle.pairs.specs.Pair.{leftOf}
 use Rattle.pairs.specs.declared.Left.{Left}

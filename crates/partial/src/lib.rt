@@ -19,7 +19,7 @@ ghost use Rattle.definitions.specs.Format.{x87};
 ghost use Rattle.definitions.specs.Steps.{cutAt, stepBy, step, usedSize};
 ghost use Rattle.operands.specs.Operand.{valueIn, valueOperand, divisorIn};
 ghost use Rattle.operands.specs.declared.Operand.the-variants.{Finite};
-ghost use Rattle.formats.specs.Stands.{StandsValue, StandsDivisor};
+ghost use Rattle.packing.specs.Stands.{StandsValue, StandsDivisor};
 ghost use Rattle.definitions.specs.Reports.{sized};
 ghost use Rattle.pairs.specs.Pair.{leftOf};
 ghost use Rattle.partial.specs.Stepped.{steppedOf};

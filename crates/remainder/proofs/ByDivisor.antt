@@ -20,9 +20,9 @@ use Rattle.operands.specs.declared.Divisor.the-variants.{Unbounded, By}
 use Rattle.operands.specs.Operand.{classIn, valueIn, valueOperand, divisorIn, Unpacks}
 use Rattle.operands.proofs.Operand.{the-type}
 use Rattle.operands.proofs.Cases.{other-cases}
-use Rattle.formats.specs.Shape.{Sound}
-use Rattle.formats.specs.Stands.{StandsValue, StandsDivisor}
-use Rattle.formats.proofs.Standing.{stands-value, value-of, value-class, unpacks}
+use Rattle.shapes.specs.Shape.{Sound}
+use Rattle.packing.specs.Stands.{StandsValue, StandsDivisor}
+use Rattle.packing.proofs.Standing.{stands-value, value-of, value-class, unpacks}
 use Rattle.laws.proofs.Division.{finish-far, finish-held}
 use Rattle.pairs.specs.declared.Left.{Left}
 use Rattle.pairs.specs.Pair.{leftOf}

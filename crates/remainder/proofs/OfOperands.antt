@@ -12,9 +12,9 @@ use Rattle.definitions.specs.declared.Pattern.{Pattern}
 use Rattle.definitions.specs.declared.RemainderAnswer.the-variants.{Finished, Refused}
 use Rattle.operands.specs.declared.Operand.{Operand}
 use Rattle.operands.specs.Operand.{classIn, valueOperand, divisorOperand, divisorIn}
-use Rattle.formats.specs.Shape.{Sound}
-use Rattle.formats.specs.Stands.{Stands, StandsValue}
-use Rattle.formats.proofs.Standing.{stands-finite, divisor-is}
+use Rattle.shapes.specs.Shape.{Sound}
+use Rattle.packing.specs.Stands.{Stands, StandsValue}
+use Rattle.packing.proofs.Standing.{stands-finite, divisor-is}
 use Rattle.laws.proofs.Order.{refusal-refuses}
 use Rattle.checks.proofs.Judged.{AcceptedPair, accepted-pair}
 use Rattle.remainder.proofs.ByDivisor.{Writes}

@@ -8,10 +8,10 @@ use Rattle.definitions.specs.declared.Kind.{Kind}
 use Rattle.definitions.specs.declared.RemainderAnswer.{RemainderAnswer}
 use Rattle.operands.specs.declared.Operand.{Operand}
 use Rattle.operands.specs.Operand.{operandOf, classIn}
-use Rattle.formats.specs.declared.shape.Shape.{Shape}
-use Rattle.formats.specs.Shape.{formatOf, shapeOf, Sound}
-use Rattle.formats.specs.Stands.{Stands}
-use Rattle.formats.proofs.Standing.{stands-pattern, class-pattern}
+use Rattle.shapes.specs.declared.shape.Shape.{Shape}
+use Rattle.shapes.specs.Shape.{formatOf, shapeOf, Sound}
+use Rattle.packing.specs.Stands.{Stands}
+use Rattle.packing.proofs.Standing.{stands-pattern, class-pattern}
 
 module _ (f : Format) (ok : Sound f) (h : Shape) (of : h ≡ shapeOf f) (x y : ℕ) (o p : Operand)
     (ox : o ≡ operandOf (f .smallest) (classOf f x)) (py : p ≡ operandOf (f .smallest) (classOf f y)) where

@@ -5,14 +5,14 @@ use checks::judge_pair;
 use definitions::Kind;
 use definitions::Pattern;
 use definitions::RemainderAnswer;
-use formats::pack::pack;
-use formats::shape::Shape;
 use operands::Divisor;
 use operands::Operand;
 use operands::divisor_of;
+use packing::pack::pack;
 use pairs::finish_pair;
 use pairs::gap;
 use pairs::quotient_bits;
+use shapes::shape::Shape;
 ghost use mathlib.Core.Path.{_≡_};
 ghost use Rattle.definitions.specs.Class.{finite};
 ghost use Rattle.definitions.specs.Format.{patternOf};
@@ -20,8 +20,8 @@ ghost use Rattle.definitions.specs.Division.{finish};
 ghost use Rattle.definitions.specs.Remainder.{quotientBits, remainderOf};
 ghost use Rattle.definitions.specs.Answers.{remainderMeaning, joined};
 ghost use Rattle.operands.specs.Operand.{classIn, valueOperand, divisorIn};
-ghost use Rattle.formats.specs.Shape.{formatOf, Sound};
-ghost use Rattle.formats.specs.Stands.{Stands, StandsValue, StandsDivisor};
+ghost use Rattle.shapes.specs.Shape.{formatOf, Sound};
+ghost use Rattle.packing.specs.Stands.{Stands, StandsValue, StandsDivisor};
 
 // A remainder's pattern and its quotient bits.
 pub struct Divided {

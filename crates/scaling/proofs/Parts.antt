@@ -16,9 +16,9 @@ use Rattle.operands.specs.Operand.{operandOf, unpackedOf, classIn}
 use Rattle.operands.specs.declared.Unpacked.{Unpacked}
 use Rattle.operands.specs.declared.Operand.the-variants.{Finite}
 use Rattle.operands.proofs.Lead.{lead, lead-exact, some-operand}
-use Rattle.formats.specs.Shape.{Sound}
-use Rattle.formats.specs.Stands.{Stands}
-use Rattle.formats.proofs.Standing.{held-digits, class-of, stands-class}
+use Rattle.shapes.specs.Shape.{Sound}
+use Rattle.packing.specs.Stands.{Stands}
+use Rattle.packing.proofs.Standing.{held-digits, class-of, stands-class}
 use Rattle.scaling.proofs.Places.{Placed}
 
 -- the operand with its leading one at the place of 1

@@ -14,9 +14,9 @@ use Rattle.operands.specs.Operand.{unpackedOf, classIn, placeIn, valueIn}
 use Rattle.operands.specs.declared.Operand.the-variants.{Finite}
 use Rattle.operands.specs.declared.Unpacked.{Unpacked}
 use Rattle.operands.proofs.Lead.{lead, lead-exact, place-is}
-use Rattle.formats.specs.Shape.{Sound}
-use Rattle.formats.specs.Stands.{StandsValue}
-use Rattle.formats.proofs.Standing.{unpacks, ready}
+use Rattle.shapes.specs.Shape.{Sound}
+use Rattle.packing.specs.Stands.{StandsValue}
+use Rattle.packing.proofs.Standing.{unpacks, ready}
 
 -- the largest exponent is not below the smallest place, and its own place is the last
 module _ (f : Format) (ok : Sound f) where

@@ -23,9 +23,9 @@ use Rattle.operands.specs.Operand.{operandOf, classIn, normalOf, placeIn}
 use Rattle.operands.specs.declared.Operand.the-variants.{Infinite}
 use Rattle.operands.specs.declared.Unpacked.{Unpacked}
 use Rattle.operands.proofs.Normal.{normal-operand}
-use Rattle.formats.specs.Shape.{Sound}
-use Rattle.formats.specs.Stands.{Stands}
-use Rattle.formats.proofs.Standing.{class-of, stands-class}
+use Rattle.shapes.specs.Shape.{Sound}
+use Rattle.packing.specs.Stands.{Stands}
+use Rattle.packing.proofs.Standing.{class-of, stands-class}
 use Rattle.scaling.specs.Power.{far, offsetOf}
 use Rattle.scaling.specs.Scaled.{scaledOf}
 use Rattle.scaling.specs.declared.value.ScaledOperand.{ScaledOperand}

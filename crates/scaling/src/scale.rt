@@ -6,17 +6,17 @@ use definitions::ScaleAnswer;
 use formats::binary::Binary16;
 use formats::binary::Binary32;
 use formats::binary::Binary64;
-use formats::pack::pack;
-use formats::shape::Shape;
 use formats::x87::X87;
 use operands::Operand;
+use packing::pack::pack;
+use shapes::shape::Shape;
 ghost use mathlib.Core.Path.{_≡_};
 ghost use Rattle.definitions.specs.Format.{binary16, binary32, binary64, x87, words};
 ghost use Rattle.definitions.specs.Scale.{scaleOf, scaleReport};
 ghost use Rattle.definitions.specs.Answers.{scaleMeaning};
 ghost use Rattle.operands.specs.Operand.{classIn};
-ghost use Rattle.formats.specs.Shape.{formatOf, Sound};
-ghost use Rattle.formats.specs.Stands.{Stands};
+ghost use Rattle.shapes.specs.Shape.{formatOf, Sound};
+ghost use Rattle.packing.specs.Stands.{Stands};
 
 // An operand of any format: 2, 3, then the value. Zeros and infinities stay as they are.
 fn scale_of(shape: Shape, x: Operand, power: i32) -> ScaleAnswer

@@ -4,18 +4,18 @@ use definitions::SplitAnswer;
 use formats::binary::Binary16;
 use formats::binary::Binary32;
 use formats::binary::Binary64;
-use formats::pack::pack;
-use formats::shape::Shape;
 use formats::x87::X87;
 use operands::Operand;
 use operands::Unpacked;
+use packing::pack::pack;
+use shapes::shape::Shape;
 ghost use mathlib.Core.Path.{_≡_};
 ghost use Rattle.definitions.specs.Format.{binary16, binary32, binary64, x87, words};
 ghost use Rattle.definitions.specs.Scale.{splitOf, splitReport};
 ghost use Rattle.definitions.specs.Answers.{splitMeaning};
 ghost use Rattle.operands.specs.Operand.{classIn};
-ghost use Rattle.formats.specs.Shape.{formatOf, Sound};
-ghost use Rattle.formats.specs.Stands.{Stands};
+ghost use Rattle.shapes.specs.Shape.{formatOf, Sound};
+ghost use Rattle.packing.specs.Stands.{Stands};
 
 // An operand of any format: 2, 3, 4, 8, then its leading one at the place of 1, and the exponent that it had.
 fn split_of(shape: Shape, x: Operand) -> SplitAnswer

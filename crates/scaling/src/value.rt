@@ -2,19 +2,19 @@
 use crate::power::FAR;
 use crate::power::offset;
 use definitions::Rounding;
-use formats::shape::Shape;
 use operands::Operand;
 use operands::Unpacked;
 use operands::exponent_at;
 use operands::normalise;
 use operands::place_of;
 use rounding::round_places;
+use shapes::shape::Shape;
 ghost use mathlib.Core.Path.{_≡_};
 ghost use Rattle.definitions.specs.Scale.{scaleValue};
 ghost use Rattle.operands.specs.Operand.{valueIn};
 ghost use Rattle.operands.specs.declared.Operand.the-variants.{Finite};
-ghost use Rattle.formats.specs.Shape.{formatOf, Sound};
-ghost use Rattle.formats.specs.Stands.{StandsValue};
+ghost use Rattle.shapes.specs.Shape.{formatOf, Sound};
+ghost use Rattle.packing.specs.Stands.{StandsValue};
 ghost use Rattle.scaling.specs.Scaled.{scaledOf};
 
 // A scaled operand, and how it was rounded.

@@ -23,9 +23,9 @@ use Rattle.chains.proofs.Spent.{Verdict, refused, passed, refusal, numbered, re
 use Rattle.checks.proofs.Judged.{AcceptedPair, refusal-some, passes, accepted-pair}
 use Rattle.operands.specs.declared.Operand.{Operand}
 use Rattle.operands.specs.Operand.{operandOf, classIn, valueOperand, divisorOperand, divisorIn}
-use Rattle.formats.specs.Stands.{Stands, StandsValue, StandsDivisor}
-use Rattle.formats.proofs.Sounds.{sound80}
-use Rattle.formats.proofs.Standing.{class-of, stands-finite, stands-pattern, class-pattern, divisor-stands, divisor-is}
+use Rattle.packing.specs.Stands.{Stands, StandsValue, StandsDivisor}
+use Rattle.shapes.proofs.Sounds.{sound80}
+use Rattle.packing.proofs.Standing.{class-of, stands-finite, stands-pattern, class-pattern, divisor-stands, divisor-is}
 use Rattle.pairs.proofs.Bits.{bits-low}
 use Rattle.steps.specs.Ran.{ranOf, ranReport, callReport}
 use Rattle.steps.specs.declared.run.Ran.{Ran}

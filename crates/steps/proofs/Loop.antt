@@ -16,9 +16,9 @@ use Rattle.operands.specs.declared.Operand.{Operand}
 use Rattle.operands.specs.declared.Divisor.{Divisor}
 use Rattle.operands.specs.declared.Divisor.the-variants.{Unbounded, By}
 use Rattle.operands.specs.Operand.{operandOf, classIn, valueIn, valueOperand, divisorIn}
-use Rattle.formats.specs.Stands.{StandsValue, StandsDivisor}
-use Rattle.formats.proofs.Sounds.{sound80}
-use Rattle.formats.proofs.Standing.{unpacks, value-of, stands-value}
+use Rattle.packing.specs.Stands.{StandsValue, StandsDivisor}
+use Rattle.shapes.proofs.Sounds.{sound80}
+use Rattle.packing.proofs.Standing.{unpacks, value-of, stands-value}
 use Rattle.partial.specs.Stepped.{steppedOf}
 use Rattle.partial.specs.declared.Stepped.{Stepped}
 use Rattle.steps.specs.Ran.{ranOf}

@@ -6,10 +6,10 @@ use checks::judge_pair;
 use definitions::Kind;
 use definitions::Refusal;
 use definitions::StepsAnswer;
-use formats::pack::pack;
 use formats::x87::X87;
 use operands::Operand;
 use operands::divisor_of;
+use packing::pack::pack;
 use pairs::quotient_bits;
 ghost use mathlib.Core.Path.{_≡_};
 ghost use mathlib.Core.Bool.{true};
@@ -23,7 +23,7 @@ ghost use Rattle.definitions.specs.Reports.{nothing, calling};
 ghost use Rattle.definitions.specs.Answers.{stepsMeaning};
 ghost use Rattle.operands.specs.Operand.{operandOf, classIn};
 ghost use Rattle.checks.specs.Verdict.{verdictNumber};
-ghost use Rattle.formats.specs.Stands.{Stands, StandsValue};
+ghost use Rattle.packing.specs.Stands.{Stands, StandsValue};
 ghost use Rattle.steps.specs.Ran.{ranReport, callReport};
 
 // The size, 6, then the operands.

@@ -9,7 +9,7 @@ ghost use Rattle.definitions.specs.Format.{x87};
 ghost use Rattle.definitions.specs.Steps.{run};
 ghost use Rattle.definitions.specs.Reports.{sized};
 ghost use Rattle.operands.specs.Operand.{valueOperand, divisorIn};
-ghost use Rattle.formats.specs.Stands.{StandsValue, StandsDivisor};
+ghost use Rattle.packing.specs.Stands.{StandsValue, StandsDivisor};
 ghost use Rattle.steps.specs.Ran.{ranOf};
 
 // What a run comes to: whether it finished, what is left, the low 32 bits of the quotient, and how many steps it took.

@@ -4,7 +4,7 @@ use mathlib.Core.Bool.{false}
 use mathlib.Core.Logic.{⊎-elim}
 use borrow.Author.Needs.{needs}
 use Rattle.definitions.specs.Fold.{bad}
-use Rattle.formats.proofs.Sounds.{sound64}
+use Rattle.shapes.proofs.Sounds.{sound64}
 use Rattle.fold.proofs.OnOperands.{bad-told, dividend-stands, written}
 use Rattle.fold.proofs.place_of.Statement.{statement}
 use Rattle.fold.proofs.place_of.Tie as tie

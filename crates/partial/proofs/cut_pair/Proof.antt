@@ -15,8 +15,8 @@ use Rattle.definitions.specs.Format.{x87}
 use Rattle.definitions.specs.declared.Kind.the-variants.{Truncated}
 use Rattle.division.specs.Divided.{dividedOf}
 use Rattle.operands.specs.Operand.{Ready}
-use Rattle.formats.proofs.Sounds.{sound80}
-use Rattle.formats.proofs.Standing.{ready}
+use Rattle.shapes.proofs.Sounds.{sound80}
+use Rattle.packing.proofs.Standing.{ready}
 use Rattle.pairs.proofs.TwoOperands.{not-negative}
 use Rattle.pairs.specs.Pair.{settledOf}
 use Rattle.pairs.specs.declared.Left.{Left}

@@ -10,8 +10,8 @@ use mir.Val.{toZ, ofZ}
 use Rattle.digits.proofs.Signed.{small-back}
 use Rattle.definitions.specs.Format.{x87}
 use Rattle.operands.specs.Operand.{valueIn, Ready}
-use Rattle.formats.proofs.Sounds.{sound80}
-use Rattle.formats.proofs.Standing.{ready, unpacks}
+use Rattle.shapes.proofs.Sounds.{sound80}
+use Rattle.packing.proofs.Standing.{ready, unpacks}
 use Rattle.pairs.proofs.TwoOperands.{gap-small}
 use Rattle.partial.proofs.Pairs.{near-step, far-step}
 use Rattle.partial.proofs.step_pair.Statement.{statement}

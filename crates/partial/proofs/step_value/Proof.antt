@@ -3,7 +3,7 @@ use mathlib.Core.Path.{sym, ap, _∙_, subst}
 use Rattle.definitions.specs.Format.{x87}
 use Rattle.definitions.specs.Steps.{step}
 use Rattle.operands.specs.Operand.{classIn}
-use Rattle.formats.specs.Stands.{StandsValue, StandsDivisor}
+use Rattle.packing.specs.Stands.{StandsValue, StandsDivisor}
 use Rattle.partial.proofs.Kept.{keptOf, unbounded-step, step-other}
 use borrow.Author.Needs.{needs}
 use Rattle.partial.proofs.step_value.Statement.{statement}

@@ -1,4 +1,4 @@
--- `scaling::cut::round_places` meets its contract: past 64 places and at 64 all of n is left over, and below 64 one division tells.
+-- `round_places` meets its contract: past 64 places and at 64 all of n is left over, and below 64 one division tells.
 -- Assumes nothing.
 use mathlib.Core.Path.{_≡_, sym, _∙_}
 use Prim.Native.Nat.{_*_, _%_, _^_, _<_}

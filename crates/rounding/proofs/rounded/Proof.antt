@@ -1,4 +1,4 @@
--- `scaling::cut::rounded` meets its contract: each return is the case that its tests led to. Assumes nothing.
+-- `rounded` meets its contract: each return is the case that its tests led to. Assumes nothing.
 use native.Mathlib.Nat.{pos-of-ne-zero}
 use native.Mathlib.Omega.{arith}
 use borrow.Author.Tests.{eq-eqb, ne-eqb}

@@ -4,9 +4,9 @@ use mir.Syntax.{w32}
 use mir.ValLaws.{toZ-ofZ}
 use Rattle.definitions.specs.Format.{Format}
 use Rattle.operands.specs.declared.Operand.the-variants.{Finite}
-use Rattle.formats.specs.Shape.{formatOf}
-use Rattle.formats.specs.Stands.{StandsValue, StandsDivisor}
-use Rattle.formats.proofs.Standing.{value-stands, ready}
+use Rattle.shapes.specs.Shape.{formatOf}
+use Rattle.packing.specs.Stands.{StandsValue, StandsDivisor}
+use Rattle.packing.proofs.Standing.{value-stands, ready}
 use Rattle.operands.proofs.Cases.{other-unbounded}
 use Rattle.remainder.proofs.ByDivisor.{by-unbounded, zero-kept, left-stands, left-written}
 use borrow.Author.Needs.{needs}

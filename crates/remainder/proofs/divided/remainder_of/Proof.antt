@@ -2,9 +2,9 @@
 use mathlib.Core.Path.{_≡_}
 use Rattle.definitions.specs.Numbers.{first, dividing}
 use Rattle.operands.specs.Operand.{classIn}
-use Rattle.formats.specs.Shape.{formatOf}
+use Rattle.shapes.specs.Shape.{formatOf}
 use Rattle.checks.proofs.Judged.{refused-number, accepted-number}
-use Rattle.formats.proofs.Standing.{divisor-stands}
+use Rattle.packing.proofs.Standing.{divisor-stands}
 use Rattle.remainder.proofs.OfOperands.{refused, dividend-stands, answered}
 use borrow.Author.Needs.{needs}
 use Rattle.remainder.proofs.divided.remainder_of.Statement.{statement}

@@ -1,6 +1,6 @@
 -- `remainder16` meets its contract: the shape is that of binary16, and the operands are those of the patterns. Assumes nothing.
 use Rattle.definitions.specs.Format.{binary16}
-use Rattle.formats.proofs.Sounds.{sound16}
+use Rattle.shapes.proofs.Sounds.{sound16}
 use Rattle.remainder.proofs.OfPatterns.{patterns-stand, patterns-remainder}
 use borrow.Author.Needs.{needs}
 use Rattle.remainder.proofs.patterns.remainder16.Statement.{statement}

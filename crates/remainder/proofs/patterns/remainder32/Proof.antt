@@ -1,6 +1,6 @@
 -- `remainder32` meets its contract: the shape is that of binary32, and the operands are those of the patterns. Assumes nothing.
 use Rattle.definitions.specs.Format.{binary32}
-use Rattle.formats.proofs.Sounds.{sound32}
+use Rattle.shapes.proofs.Sounds.{sound32}
 use Rattle.remainder.proofs.OfPatterns.{patterns-stand, patterns-remainder}
 use borrow.Author.Needs.{needs}
 use Rattle.remainder.proofs.patterns.remainder32.Statement.{statement}

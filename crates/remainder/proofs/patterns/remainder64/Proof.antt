@@ -1,6 +1,6 @@
 -- `remainder64` meets its contract: the shape is that of binary64, and the operands are those of the patterns. Assumes nothing.
 use Rattle.definitions.specs.Format.{binary64}
-use Rattle.formats.proofs.Sounds.{sound64}
+use Rattle.shapes.proofs.Sounds.{sound64}
 use Rattle.remainder.proofs.OfPatterns.{patterns-stand, patterns-remainder}
 use borrow.Author.Needs.{needs}
 use Rattle.remainder.proofs.patterns.remainder64.Statement.{statement}

@@ -1,6 +1,6 @@
 -- `remainder80` meets its contract: the shape is that of x87, and the operands are those of the patterns. Assumes nothing.
 use Rattle.definitions.specs.Format.{x87}
-use Rattle.formats.proofs.Sounds.{sound80}
+use Rattle.shapes.proofs.Sounds.{sound80}
 use Rattle.remainder.proofs.OfPatterns.{patterns-stand, patterns-remainder}
 use borrow.Author.Needs.{needs}
 use Rattle.remainder.proofs.patterns.remainder80.Statement.{statement}

@@ -3,8 +3,8 @@ use mir.Syntax.{w32}
 use mir.ValLaws.{toZ-ofZ}
 use Rattle.definitions.specs.Format.{x87, words}
 use Rattle.definitions.specs.Scale.{scaleReport}
-use Rattle.formats.proofs.Sounds.{sound80}
-use Rattle.formats.proofs.Standing.{stands-pattern, class-pattern}
+use Rattle.shapes.proofs.Sounds.{sound80}
+use Rattle.packing.proofs.Standing.{stands-pattern, class-pattern}
 use borrow.Author.Needs.{needs}
 use Rattle.scaling.proofs.scale.scale80.Statement.{statement}
 use Rattle.scaling.proofs.scale.scale80.Tie as tie

@@ -15,10 +15,10 @@ use Rattle.operands.specs.Operand.{classIn, valueIn}
 use Rattle.operands.specs.declared.Operand.{Operand}
 use Rattle.operands.specs.declared.Operand.the-variants.{Unsupported, Nan, Infinite, Zero, Finite}
 use Rattle.operands.proofs.Operand.{the-type}
-use Rattle.formats.specs.Shape.{formatOf}
-use Rattle.formats.specs.Stands.{Stands, StandsValue}
+use Rattle.shapes.specs.Shape.{formatOf}
+use Rattle.packing.specs.Stands.{Stands, StandsValue}
 use Rattle.scaling.specs.Scaled.{scaledOf}
-use Rattle.formats.proofs.Standing.{stands-unpacked}
+use Rattle.packing.proofs.Standing.{stands-unpacked}
 use Rattle.scaling.proofs.Places.{Placed, placed}
 use Rattle.scaling.proofs.Scaled.{scaled-stands, scaled-report}
 use borrow.Author.Needs.{needs}

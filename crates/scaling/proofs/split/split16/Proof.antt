@@ -1,8 +1,8 @@
 -- `split16` meets its contract: `split_of` in the shape of binary16. Assumes nothing.
 use Rattle.definitions.specs.Format.{binary16}
 use Rattle.definitions.specs.Scale.{splitReport}
-use Rattle.formats.proofs.Sounds.{sound16}
-use Rattle.formats.proofs.Standing.{stands-pattern, class-pattern}
+use Rattle.shapes.proofs.Sounds.{sound16}
+use Rattle.packing.proofs.Standing.{stands-pattern, class-pattern}
 use borrow.Author.Needs.{needs}
 use Rattle.scaling.proofs.split.split16.Statement.{statement}
 use Rattle.scaling.proofs.split.split16.Tie as tie

@@ -1,8 +1,8 @@
 -- `split32` meets its contract: `split_of` in the shape of binary32. Assumes nothing.
 use Rattle.definitions.specs.Format.{binary32}
 use Rattle.definitions.specs.Scale.{splitReport}
-use Rattle.formats.proofs.Sounds.{sound32}
-use Rattle.formats.proofs.Standing.{stands-pattern, class-pattern}
+use Rattle.shapes.proofs.Sounds.{sound32}
+use Rattle.packing.proofs.Standing.{stands-pattern, class-pattern}
 use borrow.Author.Needs.{needs}
 use Rattle.scaling.proofs.split.split32.Statement.{statement}
 use Rattle.scaling.proofs.split.split32.Tie as tie

@@ -1,8 +1,8 @@
 -- `split64` meets its contract: `split_of` in the shape of binary64. Assumes nothing.
 use Rattle.definitions.specs.Format.{binary64}
 use Rattle.definitions.specs.Scale.{splitReport}
-use Rattle.formats.proofs.Sounds.{sound64}
-use Rattle.formats.proofs.Standing.{stands-pattern, class-pattern}
+use Rattle.shapes.proofs.Sounds.{sound64}
+use Rattle.packing.proofs.Standing.{stands-pattern, class-pattern}
 use borrow.Author.Needs.{needs}
 use Rattle.scaling.proofs.split.split64.Statement.{statement}
 use Rattle.scaling.proofs.split.split64.Tie as tie

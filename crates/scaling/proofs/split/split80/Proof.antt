@@ -1,8 +1,8 @@
 -- `split80` meets its contract: `split_of` in the shape of x87. Assumes nothing.
 use Rattle.definitions.specs.Format.{x87, words}
 use Rattle.definitions.specs.Scale.{splitReport}
-use Rattle.formats.proofs.Sounds.{sound80}
-use Rattle.formats.proofs.Standing.{stands-pattern, class-pattern}
+use Rattle.shapes.proofs.Sounds.{sound80}
+use Rattle.packing.proofs.Standing.{stands-pattern, class-pattern}
 use borrow.Author.Needs.{needs}
 use Rattle.scaling.proofs.split.split80.Statement.{statement}
 use Rattle.scaling.proofs.split.split80.Tie as tie

@@ -7,9 +7,9 @@ use Rattle.definitions.specs.Format.{Format}
 use Rattle.definitions.specs.Scale.{splitOf}
 use Rattle.definitions.specs.Answers.{splitMeaning}
 use Rattle.operands.specs.Operand.{classIn, valueIn}
-use Rattle.formats.specs.Shape.{formatOf}
-use Rattle.formats.specs.Stands.{Stands}
-use Rattle.formats.proofs.Standing.{stands-unpacked}
+use Rattle.shapes.specs.Shape.{formatOf}
+use Rattle.packing.specs.Stands.{Stands}
+use Rattle.packing.proofs.Standing.{stands-unpacked}
 use Rattle.scaling.proofs.Places.{Placed, placed}
 use Rattle.scaling.proofs.Parts.{parts-stand, parts-report}
 use borrow.Author.Needs.{needs}

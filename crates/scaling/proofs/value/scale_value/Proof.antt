@@ -11,8 +11,8 @@ use Rattle.digits.proofs.Signed.{small-back, mag-add}
 use Rattle.definitions.specs.Class.{Value}
 use Rattle.definitions.specs.Format.{Format, reach}
 use Rattle.operands.specs.Operand.{valueIn}
-use Rattle.formats.specs.Shape.{formatOf}
-use Rattle.formats.proofs.Standing.{smallest-small}
+use Rattle.shapes.specs.Shape.{formatOf}
+use Rattle.packing.proofs.Standing.{smallest-small}
 use Rattle.scaling.proofs.Powers.{offset-small}
 use Rattle.scaling.proofs.Places.{Placed, top-above, top-place, placed}
 use Rattle.scaling.proofs.Scaled.{place, scaled-infinite, scaled-exact, scaled-rounded}

@@ -3,11 +3,11 @@ use mathlib.Core.Path.{_≡_, sym, ap, _∙_, subst}
 use Rattle.definitions.specs.Format.{x87, patternOf}
 use Rattle.definitions.specs.Answers.{stepsMeaning, joined}
 use Rattle.operands.specs.Operand.{classIn}
-use Rattle.formats.specs.Shape.{Sound, formatOf}
-use Rattle.formats.specs.declared.shape.Shape.{Shape}
-use Rattle.formats.specs.Stands.{Stands}
-use Rattle.formats.proofs.Sounds.{sound80}
-use Rattle.formats.proofs.Standing.{value-stands}
+use Rattle.shapes.specs.Shape.{Sound, formatOf}
+use Rattle.shapes.specs.declared.shape.Shape.{Shape}
+use Rattle.packing.specs.Stands.{Stands}
+use Rattle.shapes.proofs.Sounds.{sound80}
+use Rattle.packing.proofs.Standing.{value-stands}
 use borrow.Author.Needs.{needs}
 use Rattle.steps.proofs.call.answer.Statement.{statement}
 use Rattle.steps.proofs.call.answer.Tie as tie

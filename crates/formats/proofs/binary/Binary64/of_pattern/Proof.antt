@@ -1,7 +1,7 @@
 -- `of_pattern` meets its contract: unpacking by the shape of binary64. Assumes nothing.
 use native.Mathlib.Nat.{zero-add}
 use native.Mathlib.Omega.{arith}
-use Rattle.formats.proofs.Sounds.{sound64}
+use Rattle.shapes.proofs.Sounds.{sound64}
 use borrow.Author.Needs.{needs}
 use Rattle.formats.proofs.binary.Binary64.of_pattern.Statement.{statement}
 use Rattle.formats.proofs.binary.Binary64.of_pattern.Tie as tie

@@ -1,6 +1,6 @@
 -- `of_pattern` meets its contract: unpacking by the shape of x87. Assumes nothing.
 use native.Mathlib.Omega.{arith}
-use Rattle.formats.proofs.Sounds.{sound80}
+use Rattle.shapes.proofs.Sounds.{sound80}
 use borrow.Author.Needs.{needs}
 use Rattle.formats.proofs.x87.X87.of_pattern.Statement.{statement}
 use Rattle.formats.proofs.x87.X87.of_pattern.Tie as tie

@@ -1,0 +1,3 @@
+// The shape of a format, and a pattern as its sign, its exponent field and its stored significand.
+pub mod fields;
+pub mod shape;
