@@ -1,5 +1,4 @@
 // A pattern scaled by a power of two: rounded once, ties to even, and only below the smallest place.
-use crate::value::scale_value;
 use definitions::Refusal;
 use definitions::Rounding;
 use definitions::ScaleAnswer;
@@ -9,6 +8,7 @@ use formats::binary::Binary64;
 use formats::x87::X87;
 use operands::Operand;
 use packing::pack::pack;
+use powers::value::scale_value;
 use shapes::shape::Shape;
 ghost use mathlib.Core.Path.{_≡_};
 ghost use Rattle.definitions.specs.Format.{binary16, binary32, binary64, x87, words};

@@ -17,10 +17,10 @@ use Rattle.operands.specs.declared.Operand.the-variants.{Unsupported, Nan, Infi
 use Rattle.operands.proofs.Operand.{the-type}
 use Rattle.shapes.specs.Shape.{formatOf}
 use Rattle.packing.specs.Stands.{Stands, StandsValue}
-use Rattle.scaling.specs.Scaled.{scaledOf}
+use Rattle.powers.specs.Scaled.{scaledOf}
 use Rattle.packing.proofs.Standing.{stands-unpacked}
-use Rattle.scaling.proofs.Places.{Placed, placed}
-use Rattle.scaling.proofs.Scaled.{scaled-stands, scaled-report}
+use Rattle.powers.proofs.Places.{Placed, placed}
+use Rattle.powers.proofs.Scaled.{scaled-stands, scaled-report}
 use borrow.Author.Needs.{needs}
 use Rattle.scaling.proofs.scale.scale_of.Statement.{statement}
 use Rattle.scaling.proofs.scale.scale_of.Tie as tie

@@ -1,6 +1,6 @@
 // The power of two that a value is scaled by, as a natural number.
 ghost use mathlib.Core.Path.{_≡_};
-ghost use Rattle.scaling.specs.Power.{offsetOf};
+ghost use Rattle.powers.specs.Power.{offsetOf};
 
 // More places than any format has between its smallest place and its largest.
 pub const FAR: i32 = 65536;

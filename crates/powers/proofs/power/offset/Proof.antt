@@ -6,11 +6,11 @@ use lib.IntN.{pos, _+ℤ_}
 use mir.Syntax.{w32}
 use mir.Val.{toZ, ofZ}
 use mir.ValLaws.{toZ-ofZ, toZ-pos}
-use Rattle.scaling.specs.Power.{far, offsetOf}
-use Rattle.scaling.proofs.Powers.{offset-below, offset-above, offset-between, offset-small}
+use Rattle.powers.specs.Power.{far, offsetOf}
+use Rattle.powers.proofs.Powers.{offset-below, offset-above, offset-between, offset-small}
 use borrow.Author.Needs.{needs}
-use Rattle.scaling.proofs.power.offset.Statement.{statement}
-use Rattle.scaling.proofs.power.offset.Tie as tie
+use Rattle.powers.proofs.power.offset.Statement.{statement}
+use Rattle.powers.proofs.power.offset.Tie as tie
 
 module _ (s : tie.Start) where
   back : toZ w32 (ofZ w32 (s .args .power)) ≡ s .args .power

@@ -2,7 +2,7 @@
 use lib.IntN.{ℤ}
 use Rattle.definitions.specs.Scale as definition
 use Rattle.operands.specs.Operand.{operandOf}
-use Rattle.scaling.specs.declared.value.ScaledOperand.{ScaledOperand}
+use Rattle.powers.specs.declared.value.ScaledOperand.{ScaledOperand}
 
 abbrev pub scaledOf : ℤ → definition.Scaled → ScaledOperand
 scaledOf s a = record { operand = operandOf s (a .class); says = a .says }

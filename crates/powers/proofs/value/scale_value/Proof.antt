@@ -13,12 +13,12 @@ use Rattle.definitions.specs.Format.{Format, reach}
 use Rattle.operands.specs.Operand.{valueIn}
 use Rattle.shapes.specs.Shape.{formatOf}
 use Rattle.packing.proofs.Standing.{smallest-small}
-use Rattle.scaling.proofs.Powers.{offset-small}
-use Rattle.scaling.proofs.Places.{Placed, top-above, top-place, placed}
-use Rattle.scaling.proofs.Scaled.{place, scaled-infinite, scaled-exact, scaled-rounded}
+use Rattle.powers.proofs.Powers.{offset-small}
+use Rattle.powers.proofs.Places.{Placed, top-above, top-place, placed}
+use Rattle.powers.proofs.Scaled.{place, scaled-infinite, scaled-exact, scaled-rounded}
 use borrow.Author.Needs.{needs}
-use Rattle.scaling.proofs.value.scale_value.Statement.{statement}
-use Rattle.scaling.proofs.value.scale_value.Tie as tie
+use Rattle.powers.proofs.value.scale_value.Statement.{statement}
+use Rattle.powers.proofs.value.scale_value.Tie as tie
 
 -- the format and the value that the code is handed
 module _ (s : tie.Start) where

@@ -15,7 +15,7 @@ ghost use Rattle.operands.specs.Operand.{valueIn};
 ghost use Rattle.operands.specs.declared.Operand.the-variants.{Finite};
 ghost use Rattle.shapes.specs.Shape.{formatOf, Sound};
 ghost use Rattle.packing.specs.Stands.{StandsValue};
-ghost use Rattle.scaling.specs.Scaled.{scaledOf};
+ghost use Rattle.powers.specs.Scaled.{scaledOf};
 
 // A scaled operand, and how it was rounded.
 pub struct ScaledOperand {

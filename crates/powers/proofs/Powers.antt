@@ -12,7 +12,7 @@ use Rattle.definitions.specs.Class.{Value}
 use Rattle.definitions.specs.Format.{Format, Representable, Regular, reach}
 use Rattle.definitions.specs.Scale.{scaleValue}
 use Rattle.laws.proofs.Scaling.{scale-far-up, scale-far-down}
-use Rattle.scaling.specs.Power.{far, offsetOf}
+use Rattle.powers.specs.Power.{far, offsetOf}
 
 -- ---- the code's three cases
 pub offset-below : (k : ℤ) → ltZ k (negsuc 65535) ≡ true → offsetOf k ≡ 0

@@ -1,0 +1,3 @@
+pub mod Powers
+pub mod Places
+pub mod Scaled
