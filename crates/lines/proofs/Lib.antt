@@ -1,10 +1,3 @@
 pub mod OneDigit
 pub mod Parts
 pub mod WellFormed
-pub mod LineLength
-pub mod Placed
-pub mod Holding
-pub mod Appended
-pub mod Ended
-pub mod Last
-pub mod Pieces

@@ -1,6 +1,5 @@
 // One line of input answered by one line of output: document 01, "The line program".
 mod output;
-pub mod stream;
 
 use definitions::Kind;
 use hex::Field;

@@ -1,9 +1,9 @@
 // Answers each line of standard input by a line of standard output. What is written for a buffer of
-// input, and what is kept of it, is proved in `lines`; what this file does is read, hand on and write, and its stored input tests that.
+// input, and what is kept of it, is proved in `stream`; what this file does is read, hand on and write, and its stored input tests that.
 use libc::STDIN_FILENO;
 use libc::STDOUT_FILENO;
-use lines::stream::answer_last;
-use lines::stream::answer_lines;
+use stream::answer_last;
+use stream::answer_lines;
 ghost use mathlib.Core.Path.{_≡_};
 ghost use Prim.Native.Nat.{_≤_};
 ghost use lib.ListN.{length, take};

@@ -7,10 +7,10 @@ use native.Mathlib.Omega.{arith}
 use lib.ListN.{length, take, length-append, length-set}
 use lib.Seq.{paste, paste-zero, paste-suc}
 use Rattle.definitions.specs.Line.{lineFor, newline}
-use Rattle.lines.proofs.LineLength.{Shows, shows}
-use Rattle.lines.proofs.Placed.{ended}
-use Rattle.lines.proofs.stream.answer_at.Statement.{statement}
-use Rattle.lines.proofs.stream.answer_at.Tie as tie
+use Rattle.stream.proofs.LineLength.{Shows, shows}
+use Rattle.stream.proofs.Placed.{ended}
+use Rattle.stream.proofs.answer_at.Statement.{statement}
+use Rattle.stream.proofs.answer_at.Tie as tie
 
 abbrev Inv-loop : tie.InvT-loop
 Inv-loop out₀ at line bytes len k₀ out k = (k ≤ 20) × (out ≡ paste out₀ at bytes k) × (length out ≡ length out₀)

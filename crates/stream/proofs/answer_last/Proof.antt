@@ -2,11 +2,11 @@
 use mathlib.Core.Path.{sym, ap, _∙_}
 use native.Mathlib.Omega.{arith}
 use lib.ListN.{length}
-use Rattle.lines.proofs.Holding.{holding}
-use Rattle.lines.proofs.Last.{last-none, last-some}
+use Rattle.stream.proofs.Holding.{holding}
+use Rattle.stream.proofs.Last.{last-none, last-some}
 use borrow.Author.Needs.{needs}
-use Rattle.lines.proofs.stream.answer_last.Statement.{statement}
-use Rattle.lines.proofs.stream.answer_last.Tie as tie
+use Rattle.stream.proofs.answer_last.Statement.{statement}
+use Rattle.stream.proofs.answer_last.Tie as tie
 
 returns : tie.Need-returns
 returns c =

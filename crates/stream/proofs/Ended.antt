@@ -8,12 +8,12 @@ use borrow.Author.Tests.{eq-eqb, ne-eqb}
 use lib.ListN.{length, getD, take, drop, length-append, length-drop}
 use lib.Seq.{take-all, take-suc, length-take-le}
 use Rattle.definitions.specs.Line.{newline, answered, writtenAt, begunAt, written, begun}
-use Rattle.lines.specs.Stream.{Put, Passed}
-use Rattle.lines.specs.declared.stream.Pass.{Pass}
-use Rattle.lines.proofs.Appended.{written-append, begun-append}
-use Rattle.lines.proofs.Holding.{holding}
+use Rattle.stream.specs.Stream.{Put, Passed}
+use Rattle.stream.specs.declared.Pass.{Pass}
+use Rattle.stream.proofs.Appended.{written-append, begun-append}
+use Rattle.stream.proofs.Holding.{holding}
 use Rattle.lines.proofs.Parts.{rest-whole, part-more}
-use Rattle.lines.proofs.LineLength.{answered-length}
+use Rattle.stream.proofs.LineLength.{answered-length}
 
 -- The first i bytes of an input taken: the line that has begun at `begin`, what was put into `out` up to `at`, and that there is room for all.
 pub record SoFar (input out : List ℕ) (begin at i : ℕ) : Type 0 where

@@ -4,10 +4,10 @@ use mathlib.Core.Logic.{⊎-elim}
 use Prim.Native.Nat.{_-_, _≤_, min}
 use native.Mathlib.Omega.{arith}
 use lib.ListN.{length, take, drop, length-set}
-use Rattle.lines.specs.Stream.{keptBytes}
+use Rattle.stream.specs.Stream.{keptBytes}
 use Rattle.lines.proofs.Parts.{moved}
-use Rattle.lines.proofs.stream.keep.Statement.{statement}
-use Rattle.lines.proofs.stream.keep.Tie as tie
+use Rattle.stream.proofs.keep.Statement.{statement}
+use Rattle.stream.proofs.keep.Tie as tie
 
 abbrev Inv-loop : tie.InvT-loop
 Inv-loop buffer₀ begin end most k₀ buffer k =

@@ -4,8 +4,8 @@ use mathlib.Core.Path.{_≡_}
 use mathlib.Core.List.{List, [], _∷_, _++_, flatten}
 use lib.ListN.{length, take, drop}
 use Rattle.definitions.specs.Line.{answered, written, begun, lastWritten, outputFor}
-use Rattle.lines.specs.declared.stream.Pass.{Pass}
-use Rattle.lines.specs.declared.stream.Turn.{Turn}
+use Rattle.stream.specs.declared.Pass.{Pass}
+use Rattle.stream.specs.declared.Turn.{Turn}
 
 -- What is kept of a line that has begun: of a line that is longer than any line with an answer, enough to know it by.
 abbrev pub keptBytes : ℕ

@@ -4,9 +4,9 @@ use mathlib.Core.Logic.{⊎-elim}
 use Prim.Native.Nat.{_-_}
 use native.Mathlib.Omega.{arith}
 use lib.ListN.{length}
-use Rattle.lines.proofs.Ended.{SoFar, none-yet, line-ended, line-longer, all-passed}
-use Rattle.lines.proofs.stream.answer_ended.Statement.{statement}
-use Rattle.lines.proofs.stream.answer_ended.Tie as tie
+use Rattle.stream.proofs.Ended.{SoFar, none-yet, line-ended, line-longer, all-passed}
+use Rattle.stream.proofs.answer_ended.Statement.{statement}
+use Rattle.stream.proofs.answer_ended.Tie as tie
 
 abbrev Inv-loop : tie.InvT-loop
 Inv-loop input out₀ begin₀ at₀ i₀ out begin at i = SoFar input out begin at i × (length out ≡ length out₀)

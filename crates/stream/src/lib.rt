@@ -1,11 +1,11 @@
 // A whole input answered piece by piece: a read may cut a line anywhere. Only the program over this crate calls these functions, with
 // buffers of its own that are long enough; what a buffer holds past the part that is stated is free.
-use crate::answer_line;
+use lines::answer_line;
 ghost use mathlib.Core.Path.{_≡_};
 ghost use Prim.Native.Nat.{_+_, _-_, _*_, _≤_, min};
 ghost use lib.ListN.{length, take, drop};
 ghost use Rattle.definitions.specs.Line.{lastWritten};
-ghost use Rattle.lines.specs.Stream.{keptBytes, Holds, Put, Passed, Turned};
+ghost use Rattle.stream.specs.Stream.{keptBytes, Holds, Put, Passed, Turned};
 
 // A line of input answered at a place of `out`, with a newline, and the place after that.
 fn answer_at(out: &mut [u8], at: usize, line: &[u8]) -> usize

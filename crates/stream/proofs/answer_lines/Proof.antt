@@ -6,12 +6,12 @@ use native.Mathlib.Omega.{arith}
 use lib.ListN.{length, take, drop, length-take, length-drop}
 use lib.Seq.{length-take-le}
 use Rattle.definitions.specs.Line.{begun}
-use Rattle.lines.specs.Stream.{keptBytes}
-use Rattle.lines.proofs.Holding.{holding}
+use Rattle.stream.specs.Stream.{keptBytes}
+use Rattle.stream.proofs.Holding.{holding}
 use Rattle.lines.proofs.Parts.{drop-take, take-min}
 use borrow.Author.Needs.{needs}
-use Rattle.lines.proofs.stream.answer_lines.Statement.{statement}
-use Rattle.lines.proofs.stream.answer_lines.Tie as tie
+use Rattle.stream.proofs.answer_lines.Statement.{statement}
+use Rattle.stream.proofs.answer_lines.Tie as tie
 
 slice-reshare-prefix-answer-ended : tie.Need-slice-reshare-prefix-answer-ended
 slice-reshare-prefix-answer-ended c = search needs

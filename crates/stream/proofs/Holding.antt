@@ -4,7 +4,7 @@ use mathlib.Core.List.{List}
 use Prim.Native.Nat.{ℕ}
 use native.Mathlib.Omega.{arith}
 use lib.ListN.{length, take, length-take}
-use Rattle.lines.specs.Stream.{Holds}
+use Rattle.stream.specs.Stream.{Holds}
 
 pub holding : (list told : List ℕ) (n : ℕ) → take n list ≡ told → n ≡ length told → Holds list told n
 holding list told n e c =

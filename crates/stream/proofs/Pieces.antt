@@ -10,11 +10,11 @@ use lib.ListN.{length, take, drop, length-append, length-take, take-append-drop}
 use lib.Seq.{take-all, take-append-le}
 use Rattle.digits.proofs.Tests.{clash}
 use Rattle.definitions.specs.Line.{lineFor, newline, answered, writtenAt, begunAt, written, begun, lastWritten, outputFor}
-use Rattle.lines.specs.Stream.{keptBytes, inPieces, CutAnywhere}
-use Rattle.lines.proofs.Appended.{written-append, begun-append}
+use Rattle.stream.specs.Stream.{keptBytes, inPieces, CutAnywhere}
+use Rattle.stream.proofs.Appended.{written-append, begun-append}
 use Rattle.lines.proofs.Parts.{take-min}
 use Rattle.lines.proofs.WellFormed.{bad-length}
-use Rattle.lines.proofs.Last.{last-some}
+use Rattle.stream.proofs.Last.{last-some}
 
 -- Two lines that agree as far as a line is kept are the same line, or both too long.
 module _ (a b : List ℕ) (e : take keptBytes a ≡ take keptBytes b) where
