@@ -1,18 +1,22 @@
-// The answer block of the step and the run, as it is lent to them.
+// The answer block of the step and the run, as it is lent to them. Only the exports call this, with a block of the right length.
+use checks::number_of;
 use definitions::Pattern;
+use definitions::StepsAnswer;
 use little_endian::store2;
 use little_endian::store4;
 use little_endian::store8;
 ghost use mathlib.Core.Path.{_≡_};
+ghost use mathlib.Core.Bool.{true};
 ghost use Prim.Native.Nat.{_<_};
 ghost use lib.ListN.{length};
 ghost use Rattle.definitions.specs.Format.{x87, patterns};
+ghost use Rattle.definitions.specs.Numbers.{accepted};
 ghost use Rattle.definitions.specs.Reports.{blockLength};
-ghost use Rattle.definitions.specs.Block.{blockOf};
-ghost use Rattle.definitions.specs.Answers.{joined};
+ghost use Rattle.definitions.specs.Block.{blockOf, blockAfter};
+ghost use Rattle.definitions.specs.Answers.{joined, stepsMeaning};
 
 // The value's significand and word, the number, the quotient bits and the steps.
-pub fn fill(block: &mut [u8], value: Pattern, number: u8, quotient: u8, steps: u32)
+fn fill(block: &mut [u8], value: Pattern, number: u8, quotient: u8, steps: u32)
     requires { ⌜ (length (now block) ≡ blockLength) × (joined value < patterns x87) ⌝ }
     ensures { λ _. ⌜ now (block .exit) ≡ blockOf (record { number = number; value = joined value; quotient = quotient; steps = steps }) ⌝ }
 {
@@ -21,4 +25,31 @@ pub fn fill(block: &mut [u8], value: Pattern, number: u8, quotient: u8, steps: u
     block[10] = number;
     block[11] = quotient;
     store4(block, 12, steps);
+}
+
+// An answer's number, and its block if it is no refusal.
+pub fn write(block: &mut [u8], answer: StepsAnswer, unfinished: u8) -> u8
+    requires { ⌜ (length (now block) ≡ blockLength) × (stepsMeaning unfinished answer .value < patterns x87) × (stepsMeaning unfinished answer .quotient < 256) × (accepted unfinished ≡ true) ⌝ }
+    ensures number { λ r. ⌜ r ≡ stepsMeaning unfinished answer .number ⌝ }
+    ensures block { λ _. ⌜ now (block .exit) ≡ blockAfter (now (block .entry)) (stepsMeaning unfinished answer) ⌝ }
+{
+    match answer {
+        StepsAnswer::Finished {
+            value,
+            quotient,
+            steps,
+        } => {
+            fill(block, value, 0, quotient as u8, steps);
+            0
+        }
+        StepsAnswer::Unfinished {
+            value,
+            quotient,
+            steps,
+        } => {
+            fill(block, value, unfinished, quotient as u8, steps);
+            unfinished
+        }
+        StepsAnswer::Refused(why) => number_of(why),
+    }
 }

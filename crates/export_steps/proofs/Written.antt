@@ -1,32 +1,14 @@
--- What an answer block holds after a call, and what lending one changes. Assumes nothing.
+-- What lending a block changes: nothing, or everything is refused. Assumes nothing.
 use mathlib.Core.Path.{_≡_, refl}
-use mathlib.Core.Bool.{true, false}
 use mathlib.Core.List.{List}
 use Prim.Native.Nat.{ℕ}
 use borrow.Author.Tests.{ne-eqb}
-use Rattle.definitions.specs.Numbers.{first, accepted}
+use Rattle.definitions.specs.Numbers.{first}
 use Rattle.definitions.specs.Reports.{Report, nothing, block, blockLength, stepReport, runReport}
-use Rattle.definitions.specs.Block.{blockOf, blockAfter}
-use Rattle.definitions.specs.Answers.{stepsMeaning}
+use Rattle.definitions.specs.Block.{blockAfter}
 use Rattle.definitions.specs.declared.Kind.{Kind}
-use Rattle.definitions.specs.declared.StepsAnswer.{StepsAnswer}
 
--- ---- the answer a, of which b is the case
-
-module _ (u : ℕ) (a b : StepsAnswer) (e : a ≡ b) (lent : List ℕ) where
-  -- an answer fills the block
-  pub filled : (bytes : List ℕ) → accepted (stepsMeaning u b .number) ≡ true → bytes ≡ blockOf (stepsMeaning u b)
-      → (stepsMeaning u b .number ≡ stepsMeaning u a .number) × (bytes ≡ blockAfter lent (stepsMeaning u a))
-  unfolding blockAfter
-  filled bytes t h = rw (e, t) (refl, h)
-
-  -- a refusal leaves it
-  pub untouched : (n : ℕ) → accepted (stepsMeaning u b .number) ≡ false → n ≡ stepsMeaning u b .number
-      → (n ≡ stepsMeaning u a .number) × (lent ≡ blockAfter lent (stepsMeaning u a))
-  unfolding blockAfter
-  untouched n t h = rw (e, t) (h, refl)
-
--- ---- a block of the right length is not looked at, and another is refused before everything else
+-- a block of the right length is not looked at, and another is refused before everything else
 
 module _ (κ : Kind) (n x y l : ℕ) where
   pub step-fitting : l ≡ blockLength → stepReport nothing κ n x y ≡ stepReport (block l) κ n x y

@@ -2,10 +2,10 @@
 use mathlib.Core.Path.{refl}
 use Rattle.definitions.specs.Answers.{stepsMeaning}
 use Rattle.laws.proofs.Order.{refusal-refuses}
-use Rattle.export_steps.proofs.Written.{filled, untouched}
+use Rattle.block.proofs.Written.{filled, untouched}
 use borrow.Author.Needs.{needs}
-use Rattle.export_steps.proofs.write.Statement.{statement}
-use Rattle.export_steps.proofs.write.Tie as tie
+use Rattle.block.proofs.write.Statement.{statement}
+use Rattle.block.proofs.write.Tie as tie
 
 enum-known-answer : tie.Need-enum-known-answer
 enum-known-answer c = search needs
