@@ -16,7 +16,7 @@ ghost use Rattle.definitions.specs.Block.{blockOf, blockAfter};
 ghost use Rattle.definitions.specs.Answers.{joined, stepsMeaning};
 
 // The value's significand and word, the number, the quotient bits and the steps.
-fn fill(block: &mut [u8], value: Pattern, number: u8, quotient: u8, steps: u32)
+fn fill_block(block: &mut [u8], value: Pattern, number: u8, quotient: u8, steps: u32)
     requires { ⌜ (length (now block) ≡ blockLength) × (joined value < patterns x87) ⌝ }
     ensures { λ _. ⌜ now (block .exit) ≡ blockOf (record { number = number; value = joined value; quotient = quotient; steps = steps }) ⌝ }
 {
@@ -39,7 +39,7 @@ pub fn write(block: &mut [u8], answer: StepsAnswer, unfinished: u8) -> u8
             quotient,
             steps,
         } => {
-            fill(block, value, 0, quotient as u8, steps);
+            fill_block(block, value, 0, quotient as u8, steps);
             0
         }
         StepsAnswer::Unfinished {
@@ -47,7 +47,7 @@ pub fn write(block: &mut [u8], answer: StepsAnswer, unfinished: u8) -> u8
             quotient,
             steps,
         } => {
-            fill(block, value, unfinished, quotient as u8, steps);
+            fill_block(block, value, unfinished, quotient as u8, steps);
             unfinished
         }
         StepsAnswer::Refused(why) => number_of(why),

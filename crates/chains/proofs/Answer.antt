@@ -18,13 +18,13 @@ use Rattle.laws.proofs.RoundTrip.{read-written, read-held, written-read}
 use Rattle.laws.proofs.Division.{cut-held, finish-held}
 use Rattle.chains.proofs.Step.{step-cases}
 use Rattle.chains.proofs.Run.{run-one}
-use Rattle.chains.proofs.Lists.{sizeOf, openNumber, callReply, Tells, Telling}
+use Rattle.chains.proofs.Lists.{sizeOf, openNumber, callOutcome, Tells, Telling}
 
 abbrev pub lentOf : Call → Lent
 lentOf (step l n) = l
 lentOf (run l n b) = l
 
--- the number of a call c on two finite operands, the divisor not zero, where d says whether its reply has finished
+-- the number of a call c on two finite operands, the divisor not zero, where d says whether its outcome has finished
 abbrev pub callNumber : Call → Bool → ℕ
 callNumber c d = cond (fitting (lentOf c)) (cond (sized (sizeOf c)) (cond d 0 (openNumber c)) 6) 9
 
@@ -43,7 +43,7 @@ cond-not true k = refl
 cond-not false k = refl
 
 pub answer-is : (κ : Kind) (c : Call) (x y : ℕ) (v w : Value) → classOf x87 x ≡ finite v → classOf x87 y ≡ finite w → 0 < w .count
-    → answer κ y c x ≡ reportOf (callNumber c (callReply κ (w .count) c v .done)) (callReply κ (w .count) c v)
+    → answer κ y c x ≡ reportOf (callNumber c (callOutcome κ (w .count) c v .done)) (callOutcome κ (w .count) c v)
 unfolding answer stepReport runReport
 answer-is κ (step l n) x y v w ex ey p =
     rw (ex, ey, run-one κ n (by (w .count)) v, number-finite l n v w 1 (not (Steps.step κ n (by (w .count)) v .done)) p, cond-not)
@@ -103,27 +103,27 @@ written-state {x} h = subst (Written x) (sym (written-value h)) h
 -- ---- what an accepted call tells
 
 module _ (κ : Kind) (m : ℕ) (p : 0 < m) (hm : Representable x87 m) (c : Call) (x : ℕ) (h : State x) where
-  reply : Outcome
-  reply = callReply κ m c (valueAt x)
+  outcome : Outcome
+  outcome = callOutcome κ m c (valueAt x)
 
-  reached : Written (patternOf x87 (finite (reply .value))) (reply .value)
-  unfolding reply
-  reached = value-written (reply .value) (run-held x87 κ (sizeOf c) (budgetOf c) m (valueAt x) p hm (h .held))
+  reached : Written (patternOf x87 (finite (outcome .value))) (outcome .value)
+  unfolding outcome
+  reached = value-written (outcome .value) (run-held x87 κ (sizeOf c) (budgetOf c) m (valueAt x) p hm (h .held))
 
-  report-tells : (n : ℕ) → sized (sizeOf c) ≡ true → n ≡ cond (reply .done) 0 (openNumber c) → accepted n ≡ true
-      → Tells valueAt κ m c x (reportOf n reply) × State (reportOf n reply .value)
-  unfolding reply
+  report-tells : (n : ℕ) → sized (sizeOf c) ≡ true → n ≡ cond (outcome .done) 0 (openNumber c) → accepted n ≡ true
+      → Tells valueAt κ m c x (reportOf n outcome) × State (reportOf n outcome .value)
+  unfolding outcome
   report-tells n z e a =
       rw a (record { size = z; number = e; reached = written-value reached; quotient = refl; steps = refl }, written-state reached)
 
-  number-tells : (f s : Bool) → sized (sizeOf c) ≡ s → let n = cond f (cond s (cond (reply .done) 0 (openNumber c)) 6) 9 in
-      accepted n ≡ true → Tells valueAt κ m c x (reportOf n reply) × State (reportOf n reply .value)
-  number-tells true true z a = report-tells (cond (reply .done) 0 (openNumber c)) z refl a
+  number-tells : (f s : Bool) → sized (sizeOf c) ≡ s → let n = cond f (cond s (cond (outcome .done) 0 (openNumber c)) 6) 9 in
+      accepted n ≡ true → Tells valueAt κ m c x (reportOf n outcome) × State (reportOf n outcome .value)
+  number-tells true true z a = report-tells (cond (outcome .done) 0 (openNumber c)) z refl a
   number-tells true false z a = clash (cc)
   number-tells false s z a = clash (cc)
 
 pub answer-tells : (κ : Kind) (y : ℕ) (w : Value) → classOf x87 y ≡ finite w → 0 < w .count → Telling valueAt State κ (w .count) (answer κ y)
-unfolding reply
+unfolding outcome
 answer-tells κ y w e p c x h =
     subst (λ (r : Report ℕ). accepted (r .number) ≡ true → Tells valueAt κ (w .count) c x r × State (r .value))
     (sym (answer-is κ c x y (valueAt x) w (h .read) e p))

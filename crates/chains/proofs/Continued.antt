@@ -19,7 +19,7 @@ use Rattle.laws.proofs.Regular.{regular80}
 use Rattle.laws.proofs.RoundTrip.{read-written, read-held}
 use Rattle.chains.proofs.Run.{run-resumed}
 use Rattle.chains.proofs.Answer.{run-held}
-use Rattle.chains.proofs.Spent.{Verdict, refused, passed, numbered, result}
+use Rattle.chains.proofs.Spent.{Judgement, refused, passed, numbered, result}
 
 -- what a run reports where nothing is refused
 abbrev told : Outcome → Report ℕ
@@ -88,8 +88,8 @@ module _ (l : Lent) (κ : Kind) (n y : ℕ) where
         let q = plain (runReport l κ n b x y .value) c (r .value) read k in
         plain x (b + c) v e k ∙ ap told (run-resumed κ n b c d v spent) ∙ told-followed r s spent ∙ (λ i. together (sym p i) (sym q i))
 
-    -- a dividend that is not finite is refused, whatever the reply
-    of-class : (X : Class) → classOf x87 x ≡ X → Verdict (not (sized n)) (isZero (classOf x87 y)) (numbered l n X (classOf x87 y)) → Claim
+    -- a dividend that is not finite is refused, whatever the outcome
+    of-class : (X : Class) → classOf x87 x ≡ X → Judgement (not (sized n)) (isZero (classOf x87 y)) (numbered l n X (classOf x87 y)) → Claim
     of-class X e (refused q a o s k) =
         let other = eqb-false q 7 s in
         clash (omega (arith, sym (k (cond (not (run κ n b (divisorOf (classOf x87 y)) (dividendOf X) .done)) 7 0)) ∙ sym (number-is x b X e) ∙ seven))

@@ -48,7 +48,7 @@ module _ (κ : Kind) (x y : ℕ) (w : Value) (cs : List Call) (sx : State x) (ey
   told = list-tells valueAt State κ w (answer κ y) p (answer-tells κ y w ey p) cs x sx
 
   -- the last value's pattern
-  last : (u : Value) → told .reply .value ≡ u → patternOf x87 (finite u) ≡ lastValue x calls
+  last : (u : Value) → told .outcome .value ≡ u → patternOf x87 (finite u) ≡ lastValue x calls
   unfolding calls
   last u e =
       ap (λ (z : Value). patternOf x87 (finite z)) (sym (told .reached ∙ e))
@@ -57,7 +57,7 @@ module _ (κ : Kind) (x y : ℕ) (w : Value) (cs : List Call) (sx : State x) (ey
   claim : EveryList κ x y (valueAt x) w cs calls
   unfolding calls
   claim =
-      let r = told .reply in
+      let r = told .outcome in
       let m = w .count in
       record {
         listed = listed-taken (answer κ y) cs x;

@@ -26,7 +26,7 @@ exact-followed y x u v p q f g =
     let b = valueOf y *ℤ q in
     f ∙ ap (λ (z : ℤ). z +ℤ a) g ∙ +ℤ-assoc (valueOf v) b a ∙ ap (λ (z : ℤ). valueOf v +ℤ z) (+ℤ-comm b a ∙ sym (distrib-left (valueOf y) p q))
 
--- a reply to x by y, exact with its own part
+-- an outcome to x by y, exact with its own part
 abbrev pub ExactReply : Value → Value → Outcome → Type 0
 ExactReply y x r = Exact y x (r .value) (signed (combined (x .negative) (y .negative)) (r .whole))
 

@@ -1,4 +1,4 @@
--- Lists of calls, on whatever a state is: what each list comes to is one reply to its first dividend. Assumes nothing.
+-- Lists of calls, on whatever a state is: what each list comes to is one outcome to its first dividend. Assumes nothing.
 use mathlib.Core.Path.{_≡_, refl, sym, ap, _∙_, subst}
 use mathlib.Core.Bool.{Bool, true, false, cond}
 use mathlib.Core.List.{List, [], _∷_, append-nil}
@@ -42,35 +42,35 @@ abbrev pub openNumber : Call → ℕ
 openNumber (step l n) = 1
 openNumber (run l n b) = 7
 
-abbrev pub callReply : Kind → ℕ → Call → Value → Outcome
-callReply κ m c x = Steps.run κ (sizeOf c) (budgetOf c) (by m) x
+abbrev pub callOutcome : Kind → ℕ → Call → Value → Outcome
+callOutcome κ m c x = Steps.run κ (sizeOf c) (budgetOf c) (by m) x
 
 call-chain : (κ : Kind) (m : ℕ) (c : Call) (x : Value) → callChain κ (by m) c x ≡ chain κ (sizeOf c) (budgetOf c) (by m) x
 unfolding callChain
 call-chain κ m (step l n) x = refl
 call-chain κ m (run l n b) x = refl
 
--- What an accepted call c tells of the reply to the value of x, where `value` gives the value that a state stands for
+-- What an accepted call c tells of the outcome to the value of x, where `value` gives the value that a state stands for
 pub record Tells {A : Type 0} (value : A → Value) (κ : Kind) (m : ℕ) (c : Call) (x : A) (r : Report A) : Type 0 where
   pub size : sized (sizeOf c) ≡ true
-  pub number : r .number ≡ cond (callReply κ m c (value x) .done) 0 (openNumber c)
-  pub reached : value (r .value) ≡ callReply κ m c (value x) .value
-  pub quotient : r .quotient ≡ quotientBits (callReply κ m c (value x) .whole)
-  pub steps : r .steps ≡ callReply κ m c (value x) .steps
+  pub number : r .number ≡ cond (callOutcome κ m c (value x) .done) 0 (openNumber c)
+  pub reached : value (r .value) ≡ callOutcome κ m c (value x) .value
+  pub quotient : r .quotient ≡ quotientBits (callOutcome κ m c (value x) .whole)
+  pub steps : r .steps ≡ callOutcome κ m c (value x) .steps
 
--- What a list tells: `reply` is what it comes to
+-- What a list tells: `outcome` is what it comes to
 pub record ListTells {A : Type 0} (value : A → Value) (κ : Kind) (w : Value) (x : A) (ts : List (Taken A)) : Type 0 where
-  pub reply : Outcome
-  pub sound : Sound κ (w .count) (value x) reply
-  pub exact : Exact w (value x) (reply .value) (partsSum w (listChain value κ (by (w .count)) ts))
-  pub links : length (listChain value κ (by (w .count)) ts) ≡ reply .steps
-  pub reached : value (lastValue x ts) ≡ reply .value
-  pub done : finished ts ≡ reply .done
-  pub quotient : totalQuotient ts ≡ quotientBits (reply .whole)
-  pub steps : totalSteps ts ≡ reply .steps
-  pub number : (n : ℕ) → Runs n ts → lastNumber 7 ts ≡ cond (reply .done) 0 7
+  pub outcome : Outcome
+  pub sound : Sound κ (w .count) (value x) outcome
+  pub exact : Exact w (value x) (outcome .value) (partsSum w (listChain value κ (by (w .count)) ts))
+  pub links : length (listChain value κ (by (w .count)) ts) ≡ outcome .steps
+  pub reached : value (lastValue x ts) ≡ outcome .value
+  pub done : finished ts ≡ outcome .done
+  pub quotient : totalQuotient ts ≡ quotientBits (outcome .whole)
+  pub steps : totalSteps ts ≡ outcome .steps
+  pub number : (n : ℕ) → Runs n ts → lastNumber 7 ts ≡ cond (outcome .done) 0 7
   pub size : (n : ℕ) → Runs n ts → Some ts → sized n ≡ true
-  pub one : (n : ℕ) → Runs n ts → reply ≡ Steps.run κ n (totalBudget ts) (by (w .count)) (value x)
+  pub one : (n : ℕ) → Runs n ts → outcome ≡ Steps.run κ n (totalBudget ts) (by (w .count)) (value x)
 
 run-size : (n : ℕ) (c : Call) → IsRun n c → sizeOf c ≡ n
 run-size n (step l k) h = absurd h
@@ -90,7 +90,7 @@ module _ {A : Type 0} (value : A → Value) (κ : Kind) (w : Value) (p : 0 < w .
   unfolding listChain partsSum lastValue finished totalQuotient totalSteps lastNumber totalBudget Steps.run
   tells-none x =
       record {
-        reply = record { done = false; value = value x; whole = 0; steps = 0 };
+        outcome = record { done = false; value = value x; whole = 0; steps = 0 };
         sound = sound-none κ (w .count) (value x);
         exact = exact-none w (value x);
         links = refl;
@@ -105,7 +105,7 @@ module _ {A : Type 0} (value : A → Value) (κ : Kind) (w : Value) (p : 0 < w .
 
   module _ (c : Call) (x : A) (r : Report A) (h : Tells value κ (w .count) c x r) where
     own : Outcome
-    own = callReply κ (w .count) c (value x)
+    own = callOutcome κ (w .count) c (value x)
 
     own-chain : callChain κ (by (w .count)) c (value x) ≡ chain κ (sizeOf c) (budgetOf c) (by (w .count)) (value x)
     own-chain = call-chain κ (w .count) c (value x)
@@ -130,7 +130,7 @@ module _ {A : Type 0} (value : A → Value) (κ : Kind) (w : Value) (p : 0 < w .
     unfolding own listChain partsSum lastValue finished totalQuotient totalSteps lastNumber totalBudget
     tells-last e =
         record {
-          reply = own;
+          outcome = own;
           sound = sound-run κ (sizeOf c) (budgetOf c) (w .count) (value x) p (h .size);
           exact = rw append-nil own-exact;
           links = rw append-nil own-links;
@@ -148,9 +148,9 @@ module _ {A : Type 0} (value : A → Value) (κ : Kind) (w : Value) (p : 0 < w .
     unfolding own listChain partsSum lastValue finished totalQuotient totalSteps lastNumber totalBudget
     tells-more e ts g =
         record {
-          reply = followed own (g .reply);
-          sound = sound-followed κ (w .count) (value x) own (g .reply) p e (sound-run κ (sizeOf c) (budgetOf c) (w .count) (value x) p (h .size)) (rw (h .reached) at (g .sound));
-          exact = rw parts-append (exact-followed w (value x) (own .value) (g .reply .value) _ _ own-exact (rw (h .reached) at (g .exact)));
+          outcome = followed own (g .outcome);
+          sound = sound-followed κ (w .count) (value x) own (g .outcome) p e (sound-run κ (sizeOf c) (budgetOf c) (w .count) (value x) p (h .size)) (rw (h .reached) at (g .sound));
+          exact = rw parts-append (exact-followed w (value x) (own .value) (g .outcome .value) _ _ own-exact (rw (h .reached) at (g .exact)));
           links = rw length-append (omega (arith, own-links, g .links));
           reached = g .reached;
           done = rw (own-done, e) (g .done);
@@ -164,7 +164,7 @@ module _ {A : Type 0} (value : A → Value) (κ : Kind) (w : Value) (p : 0 < w .
               (run-size n c (i .0)) (sym (run-resumed κ (sizeOf c) (budgetOf c) (totalBudget ts) (by (w .count)) (value x) e));
         }
 
--- the answers f to calls on states that are Good: an accepted call tells of its reply, and leads to such a state again
+-- the answers f to calls on states that are Good: an accepted call tells of its outcome, and leads to such a state again
 abbrev pub Telling : {A : Type 0} → (A → Value) → (A → Type 0) → Kind → ℕ → (Call → A → Report A) → Type 0
 Telling {A} value Good κ m f = (c : Call) (x : A) → Good x → accepted (f c x .number) ≡ true → Tells value κ m c x (f c x) × Good (f c x .value)
 

@@ -1,4 +1,4 @@
--- What a reply leaves of its dividend, and one reply after another: what steps, runs and lists of calls have in common. Assumes nothing.
+-- What an outcome leaves of its dividend, and one outcome after another: what steps, runs and lists of calls have in common. Assumes nothing.
 use mathlib.Core.Path.{_≡_, refl, sym, ap, _∙_, subst}
 use mathlib.Core.Bool.{Bool, true, false, cond}
 use Prim.Native.Nat.{ℕ, suc, _+_, _*_, _/_, _%_, _^_, _≤_, _<_}
@@ -42,7 +42,7 @@ pub finish-shift : (κ : Kind) (m : ℕ) (s : Bool) (n w : ℕ) → 0 < m → w 
 unfolding finish finishBy
 finish-shift κ m s n w h e = rw (add-mul-div-left n w, add-mul-mod-self-left n m w, up-shift κ (n / m) w (n % m) m e, whole-shift)
 
--- What holds of a reply to x that has not finished: the parts taken so far are even, so that a finishing step may round by its own part alone.
+-- What holds of an outcome to x that has not finished: the parts taken so far are even, so that a finishing step may round by its own part alone.
 pub record Unfinished (m : ℕ) (x : Value) (r : Outcome) : Type 0 where
   pub sign : r .value .negative ≡ x .negative
   pub sum : x .count ≡ r .value .count + m * r .whole
@@ -117,7 +117,7 @@ unfinished-finish κ m x r p g =
     let e : x ≡ record { negative = r .value .negative; count = r .value .count + m * r .whole } = λ i. record { negative = sym (g .sign) i; count = g .sum i } in
     ap (finish κ (by m)) e ∙ finish-shift κ m (r .value .negative) (r .value .count) (r .whole) p (g .even)
 
--- one reply after another
+-- one outcome after another
 pub sound-followed : (κ : Kind) (m : ℕ) (x : Value) (r s : Outcome) → 0 < m → r .done ≡ false → Sound κ m x r → Sound κ m (r .value) s
     → Sound κ m x (followed r s)
 sound-followed κ m x r s p e f = go (s .done) (subst (λ (d : Bool). Ended d κ m x r) e f)

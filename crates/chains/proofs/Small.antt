@@ -16,7 +16,7 @@ use Rattle.laws.proofs.Regular.{regular80}
 use Rattle.laws.proofs.Representable.{zero-held}
 use Rattle.laws.proofs.RoundTrip.{pattern-small, read-held, house-nan-small}
 use Rattle.chains.proofs.Run.{run-one}
-use Rattle.chains.proofs.Spent.{Verdict, refused, passed, numbered, result}
+use Rattle.chains.proofs.Spent.{Judgement, refused, passed, numbered, result}
 use Rattle.chains.proofs.Continued.{held}
 
 pub record Small (r : Report ℕ) : Type 0 where
@@ -44,7 +44,7 @@ dividend-held x (infinite s) e = zero-held x87
 dividend-held x (finite v) e = read-held x87 regular80 x v e
 
 module _ (l : Lent) (κ : Kind) (n x y : ℕ) where
-  -- whatever the number k of the reply
+  -- whatever the number k of the outcome
   reply-small : (b k : ℕ) → Small (reportOf (numbered l n (classOf x87 x) (classOf x87 y) k) (run κ n b (divisorOf (classOf x87 y)) (dividendOf (classOf x87 x))))
   reply-small b k = go (result l n X Y)
     where
@@ -57,7 +57,7 @@ module _ (l : Lent) (κ : Kind) (n x y : ℕ) where
       r : Outcome
       r = run κ n b (divisorOf Y) (dividendOf X)
 
-      go : Verdict (not (sized n)) (isZero Y) (numbered l n X Y) → Small (reportOf (numbered l n X Y k) r)
+      go : Judgement (not (sized n)) (isZero Y) (numbered l n X Y) → Small (reportOf (numbered l n X Y k) r)
       go (refused q a o s e) = rw (e k) (of-refusal q r a)
       go (passed i z e) =
           let h = of-answer (accepted (numbered l n X Y k)) (r .value) (r .whole) (held κ n b y Y (dividendOf X) refl z (dividend-held x X refl)) in

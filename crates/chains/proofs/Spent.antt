@@ -15,32 +15,32 @@ use Rattle.definitions.specs.Steps.{run, needed}
 use Rattle.definitions.specs.Reports.{Lent, fitting, sized, calling, runReport}
 use Rattle.chains.proofs.Run.{run-steps, run-done, unbounded-steps, unbounded-done}
 
--- the number of a call whose reply is not looked at: 0 where nothing is refused
+-- the number of a call whose outcome is not looked at: 0 where nothing is refused
 abbrev pub refusal : Lent → ℕ → Class → Class → ℕ
 refusal l n a b = first (calling l n ++ dividing a b)
 
--- A number that depends on the reply's k: it is a refusal whatever the reply, or nothing is refused, so that the size is right (i) and the
+-- A number that depends on the outcome's k: it is a refusal whatever the outcome, or nothing is refused, so that the size is right (i) and the
 -- divisor not zero (z), and it is k.
-pub data Verdict (i z : Bool) (number : ℕ → ℕ) : Type 0 where
-  refused : (r : ℕ) → accepted r ≡ false → eqb r 0 ≡ false → eqb r 7 ≡ false → ((k : ℕ) → number k ≡ r) → Verdict i z number
-  passed : i ≡ false → z ≡ false → ((k : ℕ) → number k ≡ k) → Verdict i z number
+pub data Judgement (i z : Bool) (number : ℕ → ℕ) : Type 0 where
+  refused : (r : ℕ) → accepted r ≡ false → eqb r 0 ≡ false → eqb r 7 ≡ false → ((k : ℕ) → number k ≡ r) → Judgement i z number
+  passed : i ≡ false → z ≡ false → ((k : ℕ) → number k ≡ k) → Judgement i z number
 
-verdict : (m i u q d z : Bool) → Verdict i z (λ k. cond m 9 (cond i 6 (cond u 2 (cond q 3 (cond d 4 (cond z 5 k))))))
-verdict true i u q d z = refused 9 refl refl refl (λ k. refl)
-verdict false true u q d z = refused 6 refl refl refl (λ k. refl)
-verdict false false true q d z = refused 2 refl refl refl (λ k. refl)
-verdict false false false true d z = refused 3 refl refl refl (λ k. refl)
-verdict false false false false true z = refused 4 refl refl refl (λ k. refl)
-verdict false false false false false true = refused 5 refl refl refl (λ k. refl)
-verdict false false false false false false = passed refl refl (λ k. refl)
+judgement : (m i u q d z : Bool) → Judgement i z (λ k. cond m 9 (cond i 6 (cond u 2 (cond q 3 (cond d 4 (cond z 5 k))))))
+judgement true i u q d z = refused 9 refl refl refl (λ k. refl)
+judgement false true u q d z = refused 6 refl refl refl (λ k. refl)
+judgement false false true q d z = refused 2 refl refl refl (λ k. refl)
+judgement false false false true d z = refused 3 refl refl refl (λ k. refl)
+judgement false false false false true z = refused 4 refl refl refl (λ k. refl)
+judgement false false false false false true = refused 5 refl refl refl (λ k. refl)
+judgement false false false false false false = passed refl refl (λ k. refl)
 
--- of a call: k is the number of its reply
+-- of a call: k is the number of its outcome
 abbrev pub numbered : Lent → ℕ → Class → Class → ℕ → ℕ
 numbered l n a b k =
     cond (not (fitting l)) 9 (cond (not (sized n)) 6 (cond (isUnsupported a || isUnsupported b) 2 (cond (isNan a || isNan b) 3 (cond (isInfinite a) 4 (cond (isZero b) 5 k)))))
 
-pub result : (l : Lent) (n : ℕ) (a b : Class) → Verdict (not (sized n)) (isZero b) (numbered l n a b)
-result l n a b = verdict (not (fitting l)) (not (sized n)) (isUnsupported a || isUnsupported b) (isNan a || isNan b) (isInfinite a) (isZero b)
+pub result : (l : Lent) (n : ℕ) (a b : Class) → Judgement (not (sized n)) (isZero b) (numbered l n a b)
+result l n a b = judgement (not (fitting l)) (not (sized n)) (isUnsupported a || isUnsupported b) (isNan a || isNan b) (isInfinite a) (isZero b)
 
 nonzero-pos : (n : ℕ) → eqb n 0 ≡ false → 0 < n
 nonzero-pos n e = let h = eqb-false n 0 e in omega arith
@@ -57,7 +57,7 @@ abbrev pub neededBy : Kind → ℕ → Divisor → Value → ℕ
 neededBy κ n unbounded x = 1
 neededBy κ n (by m) x = needed κ n m x
 
--- a reply within the budget b, where the chain needs k steps
+-- an outcome within the budget b, where the chain needs k steps
 record Within (b k : ℕ) (r : Outcome) : Type 0 where
   pub steps : r .steps ≡ min b k
   pub done : r .done ≡ leb k b
@@ -73,7 +73,7 @@ within κ n b nan x i z = record { steps = unbounded-steps κ n b x; done = unbo
 within κ n b unsupported x i z = record { steps = unbounded-steps κ n b x; done = unbounded-done κ n b x }
 
 module _ {i z : Bool} {number : ℕ → ℕ} (r : Outcome) (b k : ℕ) (w : i ≡ false → z ≡ false → Within b k r) where
-  spent-number : Verdict i z number → eqb (number (cond (not (r .done)) 7 0)) 7 ≡ eqb (number 0) 0 && ltb b k
+  spent-number : Judgement i z number → eqb (number (cond (not (r .done)) 7 0)) 7 ≡ eqb (number 0) 0 && ltb b k
   spent-number (refused q a o s e) = rw (e (cond (not (r .done)) 7 0), e 0, o, s)
   spent-number (passed f g e) = rw (e (cond (not (r .done)) 7 0), e 0, w f g .done, ltb-not) (go (leb k b))
     where
@@ -81,7 +81,7 @@ module _ {i z : Bool} {number : ℕ → ℕ} (r : Outcome) (b k : ℕ) (w : i �
       go true = refl
       go false = refl
 
-  spent-steps : Verdict i z number → cond (accepted (number (cond (not (r .done)) 7 0))) (r .steps) 0 ≡ cond (eqb (number 0) 0) (min b k) 0
+  spent-steps : Judgement i z number → cond (accepted (number (cond (not (r .done)) 7 0))) (r .steps) 0 ≡ cond (eqb (number 0) 0) (min b k) 0
   spent-steps (refused q a o s e) = rw (e (cond (not (r .done)) 7 0), e 0, a, o)
   spent-steps (passed f g e) = rw (e (cond (not (r .done)) 7 0), e 0, w f g .steps) (go (r .done))
     where

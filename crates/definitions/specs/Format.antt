@@ -42,9 +42,9 @@ topField f = 2 * f .bias + 1
 abbrev pub leading : Format → ℕ
 leading f = 2 ^ (f .precision - 1)
 
-abbrev pub stored : Layout → ℕ → ℕ
-stored Hidden p = 2 ^ (p - 1)
-stored Explicit p = 2 ^ p
+abbrev pub storedWeight : Layout → ℕ → ℕ
+storedWeight Hidden p = 2 ^ (p - 1)
+storedWeight Explicit p = 2 ^ p
 
 -- what a pattern leaves out of a significand that has its leading digit, of the weight h
 abbrev pub hiddenPart : Layout → ℕ → ℕ
@@ -52,7 +52,7 @@ hiddenPart Hidden h = h
 hiddenPart Explicit h = 0
 
 abbrev pub fieldWeight : Format → ℕ
-fieldWeight f = stored (f .layout) (f .precision)
+fieldWeight f = storedWeight (f .layout) (f .precision)
 
 abbrev pub signWeight : Format → ℕ
 signWeight f = fieldWeight f * (topField f + 1)

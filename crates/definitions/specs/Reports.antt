@@ -55,11 +55,11 @@ reportOf n r =
       steps = cond (accepted n) (r .steps) 0;
     }
 
-abbrev stepReply : Kind → ℕ → Class → Class → Outcome
-stepReply κ n x y = step κ n (divisorOf y) (dividendOf x)
+abbrev stepOutcome : Kind → ℕ → Class → Class → Outcome
+stepOutcome κ n x y = step κ n (divisorOf y) (dividendOf x)
 
-abbrev runReply : Kind → ℕ → ℕ → Class → Class → Outcome
-runReply κ n b x y = run κ n b (divisorOf y) (dividendOf x)
+abbrev runOutcome : Kind → ℕ → ℕ → Class → Class → Outcome
+runOutcome κ n b x y = run κ n b (divisorOf y) (dividendOf x)
 
 -- [4.1] a step of size n on the patterns x and y
 unfoldable pub stepReport : Lent → Kind → ℕ → ℕ → ℕ → Report ℕ
@@ -67,7 +67,7 @@ unfolding first
 stepReport l κ n x y =
     let a = classOf x87 x in
     let b = classOf x87 y in
-    let r = stepReply κ n a b in
+    let r = stepOutcome κ n a b in
     reportOf (first (stepping l n a b (not (r .done)))) r
 
 -- [4.6, 4.8] a run of size n with a budget
@@ -76,5 +76,5 @@ unfolding first
 runReport l κ n budget x y =
     let a = classOf x87 x in
     let b = classOf x87 y in
-    let r = runReply κ n budget a b in
+    let r = runOutcome κ n budget a b in
     reportOf (first (running l n a b (not (r .done)))) r

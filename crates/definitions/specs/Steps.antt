@@ -58,7 +58,7 @@ run κ n (suc b) d x =
 pub record Link : Type 0 where
   pub size : ℕ
   pub dividend : Value
-  pub reply : Outcome
+  pub outcome : Outcome
 
 -- the steps that a run takes, in order
 unfoldable pub chain : Kind → ℕ → ℕ → Divisor → Value → List Link
@@ -67,11 +67,11 @@ chain κ n zero d x = []
 chain κ n (suc b) d x =
     let s = step κ n d x in
     let ls = chain κ n b d (s .value) in
-    record { size = n; dividend = x; reply = s } ∷ cond (s .done) [] ls
+    record { size = n; dividend = x; outcome = s } ∷ cond (s .done) [] ls
 
 -- [4.10] the sum of the exact parts of a chain by the divisor y, each with the sign of its step
 abbrev pub signedPart : Value → Link → ℤ
-signedPart y l = signed (combined (l .dividend .negative) (y .negative)) (l .reply .whole)
+signedPart y l = signed (combined (l .dividend .negative) (y .negative)) (l .outcome .whole)
 
 unfoldable pub partsSum : Value → List Link → ℤ
 partsSum y [] = pos 0

@@ -34,7 +34,7 @@ struct Place {
 // The byte of a place with no remainder: no quotient's three bits are it.
 const MARK: u8 = 255;
 
-fn place_of(x: u64, y: Divisor, kind: Kind) -> Place
+fn fold_place(x: u64, y: Divisor, kind: Kind) -> Place
     requires { ⌜ StandsDivisor binary64 y ⌝ }
     ensures { λ r. ⌜ r ≡ placeBy kind (divisorIn (binary64 .smallest) y) x ⌝ }
 {
@@ -54,14 +54,20 @@ fn place_of(x: u64, y: Divisor, kind: Kind) -> Place
 }
 
 // Every place, and how many were marked.
-fn fill(x: &[u64], results: &mut [u64], quotients: &mut [u8], y: Divisor, kind: Kind) -> usize
+fn fold_places(
+    x: &[u64],
+    results: &mut [u64],
+    quotients: &mut [u8],
+    y: Divisor,
+    kind: Kind,
+) -> usize
     requires { ⌜ StandsDivisor binary64 y × (length (now results) ≡ length (now x)) × (length (now quotients) ≡ length (now x)) ⌝ }
     ensures { λ r. ⌜ Filled kind (divisorIn (binary64 .smallest) y) (now (x .entry)) (now (results .exit)) (now (quotients .exit)) r ⌝ }
 {
     let mut marked: usize = 0;
     let mut i: usize = 0;
     while i < x.len() {
-        let place = place_of(x[i], y, kind);
+        let place = fold_place(x[i], y, kind);
         let byte = place.byte;
         results[i] = place.value;
         quotients[i] = byte;
@@ -100,7 +106,7 @@ pub fn fold64(
         Verdict::Refused(why) => refused(why),
         Verdict::Accepted => FoldAnswer {
             number: 0,
-            marked: fill(x, results, quotients, divisor_of(divisor), kind),
+            marked: fold_places(x, results, quotients, divisor_of(divisor), kind),
         },
     }
 }

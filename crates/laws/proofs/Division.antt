@@ -151,8 +151,8 @@ zero-sign κ m x h = go (roundsUp κ (n / m) (n % m) m)
 abbrev pub finer : ℕ → Value → Value
 finer c v = record { negative = v .negative; count = v .count * c }
 
-abbrev pub finerReply : ℕ → Outcome → Outcome
-finerReply c r = record { done = r .done; value = finer c (r .value); whole = r .whole; steps = r .steps }
+abbrev pub finerOutcome : ℕ → Outcome → Outcome
+finerOutcome c r = record { done = r .done; value = finer c (r .value); whole = r .whole; steps = r .steps }
 
 pub up-scale : (κ : Kind) (q r m c : ℕ) → 0 < c → roundsUp κ q (r * c) (m * c) ≡ roundsUp κ q r m
 up-scale Truncated q r m c h = refl
@@ -162,7 +162,7 @@ cond-scale : (u : Bool) (a b c : ℕ) → cond u (a * c) (b * c) ≡ cond u a b 
 cond-scale true a b c = refl
 cond-scale false a b c = refl
 
-pub finish-scale : (κ : Kind) (m c : ℕ) (x : Value) → 0 < m → 0 < c → finishBy κ (m * c) (finer c x) ≡ finerReply c (finishBy κ m x)
+pub finish-scale : (κ : Kind) (m c : ℕ) (x : Value) → 0 < m → 0 < c → finishBy κ (m * c) (finer c x) ≡ finerOutcome c (finishBy κ m x)
 unfolding finishBy
 finish-scale κ m c x h g =
     let q = x .count / m in

@@ -9,7 +9,7 @@ use lib.Dec.{leb, eqb, eqb·suc-zero}
 use lib.Pow.{pow-pos}
 use Rattle.digits.proofs.Tests.{clash}
 use Rattle.definitions.specs.Class.{Value, Class, finite, infinite, nan}
-use Rattle.definitions.specs.Format.{Format, Regular, topField, leading, stored, fieldWeight, hiddenPart, fieldsClass, body, quiet, infinity}
+use Rattle.definitions.specs.Format.{Format, Regular, topField, leading, storedWeight, fieldWeight, hiddenPart, fieldsClass, body, quiet, infinity}
 use Rattle.definitions.specs.declared.Layout.{Layout}
 use Rattle.definitions.specs.declared.Layout.the-variants.{Hidden, Explicit}
 use Rattle.laws.proofs.Representable.{leading-twice}
@@ -19,12 +19,12 @@ abbrev pub number : Bool → ℕ → ℕ → Class
 number n j s = finite (record { negative = n; count = s * 2 ^ j })
 
 -- ---- weights
-pub weight-pos : (l : Layout) (p : ℕ) → 0 < stored l p
+pub weight-pos : (l : Layout) (p : ℕ) → 0 < storedWeight l p
 weight-pos Hidden p = pow-pos (p - 1)
 weight-pos Explicit p = pow-pos p
 
 -- what the pattern leaves out and what it stores make one significand
-pub weight : (l : Layout) (f : Format) → Regular f → hiddenPart l (leading f) + stored l (f .precision) ≡ leading f + leading f
+pub weight : (l : Layout) (f : Format) → Regular f → hiddenPart l (leading f) + storedWeight l (f .precision) ≡ leading f + leading f
 weight Hidden f r = refl
 weight Explicit f r = zero-add (2 ^ f .precision) ∙ leading-twice f r
 
@@ -70,7 +70,7 @@ high-body Hidden f j t e g = rw e (omega arith)
 high-body Explicit f j t e g = rw (zero-add t, le-leb (leading f) t (omega arith)) (omega arith)
 
 -- ---- what a finite pattern's significand is bounded by
-pub finite-low : (l : Layout) (f : Format) (n : Bool) (t : ℕ) (v : Value) → fieldsClass l f n 0 t ≡ finite v → t < stored l (f .precision) → t < leading f
+pub finite-low : (l : Layout) (f : Format) (n : Bool) (t : ℕ) (v : Value) → fieldsClass l f n 0 t ≡ finite v → t < storedWeight l (f .precision) → t < leading f
 finite-low Hidden f n t v e h = h
 finite-low Explicit f n t v e h = go (leb (leading f) t) refl
   where

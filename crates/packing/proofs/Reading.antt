@@ -10,7 +10,7 @@ use lib.Dec.{eqb·suc-zero}
 use lib.IntN.{pos, _+ℤ_}
 use lib.Pow.{pow-add}
 use Rattle.definitions.specs.Class.{unsupported}
-use Rattle.definitions.specs.Format.{Format, topField, leading, stored, fieldWeight, hiddenPart, infinity, fieldsClass, classOf}
+use Rattle.definitions.specs.Format.{Format, topField, leading, storedWeight, fieldWeight, hiddenPart, infinity, fieldsClass, classOf}
 use Rattle.definitions.specs.declared.Layout.{Layout}
 use Rattle.definitions.specs.declared.Layout.the-variants.{Hidden, Explicit}
 use Rattle.laws.proofs.Layouts.{number, low-read, high-read, top-read, hidden-infinity}
@@ -23,7 +23,7 @@ use Rattle.shapes.specs.declared.fields.Fields.{Fields}
 use Rattle.shapes.proofs.Weights.{leading-le, significand-word}
 
 -- a leading digit that field 0 has not, and one that another field lacks: only an explicit one can do so
-pseudo-read : (l : Layout) (f : Format) (n : Bool) (t : ℕ) → t < stored l (f .precision) → leading f ≤ t → fieldsClass l f n 0 t ≡ unsupported
+pseudo-read : (l : Layout) (f : Format) (n : Bool) (t : ℕ) → t < storedWeight l (f .precision) → leading f ≤ t → fieldsClass l f n 0 t ≡ unsupported
 pseudo-read Hidden f n t h g = absurd (omega arith)
 pseudo-read Explicit f n t h g = rw (le-leb (leading f) t g)
 

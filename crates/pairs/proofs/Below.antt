@@ -85,20 +85,20 @@ module _ (s : ℤ) (neg : Bool) (n m : ℕ) (some : 0 < n) (dn : Digits 64 n) (m
   stays : Left
   stays = record { value = Finite (unpackedOf s v); quotient = 0 }
 
-  -- the reply, by whether it goes up
-  reply : Bool → Left
-  reply up = record { value = operandOf s (finite (record { negative = cond up (not neg) neg; count = cond up (m - n) n })); quotient = cond up 1 0 % 2 ^ 32 }
+  -- the outcome, by whether it goes up
+  outcome : Bool → Left
+  outcome up = record { value = operandOf s (finite (record { negative = cond up (not neg) neg; count = cond up (m - n) n })); quotient = cond up 1 0 % 2 ^ 32 }
 
-  reply-is : (κ : Kind) → leftOf s (finishBy κ m v) ≡ reply (roundsUp κ 0 n m)
-  unfolding finishBy v reply
+  reply-is : (κ : Kind) → leftOf s (finishBy κ m v) ≡ outcome (roundsUp κ 0 n m)
+  unfolding finishBy v outcome
   reply-is κ = rw (div-eq-of-lt under, mod-eq-of-lt under)
 
-  stays-is : stays ≡ reply false
-  unfolding stays reply v
+  stays-is : stays ≡ outcome false
+  unfolding stays outcome v
   stays-is = λ i. record { value = kept i; quotient = 0 }
 
-  taken-is : size m ≡ size n + 1 → lead m < lead n → taken ≡ reply true
-  unfolding taken reply t
+  taken-is : size m ≡ size n + 1 → lead m < lead n → taken ≡ outcome true
+  unfolding taken outcome t
   taken-is next h =
       let w = lead-word m more in
       λ i. record { value = normal-operand s (not neg) (lead m - (lead n - lead m)) (size n - 1) (m - n) (omega arith) (missing next h) i; quotient = 1 }
@@ -107,12 +107,12 @@ module _ (s : ℤ) (neg : Bool) (n m : ℕ) (some : 0 < n) (dn : Digits 64 n) (m
   nearest zero e =
       let p = size-pos n some in
       let next : size m ≡ size n + 1 = omega arith in
-      go next (ltb (lead m) (lead n)) refl ∙ ap reply (sym (up-is ∙ near next)) ∙ sym (reply-is Nearest)
+      go next (ltb (lead m) (lead n)) refl ∙ ap outcome (sym (up-is ∙ near next)) ∙ sym (reply-is Nearest)
     where
-      go : size m ≡ size n + 1 → (up : Bool) → ltb (lead m) (lead n) ≡ up → cond up taken stays ≡ reply up
+      go : size m ≡ size n + 1 → (up : Bool) → ltb (lead m) (lead n) ≡ up → cond up taken stays ≡ outcome up
       go next true f = taken-is next (ltb-true (lead m) (lead n) f)
       go next false f = stays-is
-  nearest (suc d) e = rw (le-ltb (suc d) 1 (omega arith)) stays-is ∙ ap reply (sym (up-is ∙ far (omega arith))) ∙ sym (reply-is Nearest)
+  nearest (suc d) e = rw (le-ltb (suc d) 1 (omega arith)) stays-is ∙ ap outcome (sym (up-is ∙ far (omega arith))) ∙ sym (reply-is Nearest)
 
   pub below : (κ : Kind) (w : Value) (d : ℕ) → w .count ≡ m → size n - 1 + suc d ≡ size m - 1
       → belowOf κ (unpackedOf s (record { negative = neg; count = n })) (unpackedOf s w) (negsuc d) ≡ leftOf s (finishBy κ m (record { negative = neg; count = n }))

@@ -24,33 +24,33 @@ ghost use Rattle.shapes.specs.Shape.{formatOf, Sound};
 ghost use Rattle.packing.specs.Stands.{Stands, StandsValue, StandsDivisor};
 
 // A remainder's pattern and its quotient bits.
-pub struct Divided {
+pub struct Residue {
     pub value: Pattern,
     pub quotient: u32,
 }
 
 // A finite value by a divisor that has been judged: a list judges its divisor once. A zero, and a value by an infinite divisor, are
 // returned as they are.
-pub fn divide_by(shape: Shape, x: Operand, y: Divisor, kind: Kind) -> Divided
+pub fn divide_by(shape: Shape, x: Operand, y: Divisor, kind: Kind) -> Residue
     requires { ⌜ Sound (formatOf shape) × StandsValue (formatOf shape) x × StandsDivisor (formatOf shape) y ⌝ }
     ensures value { λ r. ⌜ joined (r .value) ≡ patternOf (formatOf shape) (finite (finish kind (divisorIn (shape .smallest) y) (valueOperand (shape .smallest) x) .value)) ⌝ }
     ensures quotient { λ r. ⌜ r .quotient ≡ quotientBits (finish kind (divisorIn (shape .smallest) y) (valueOperand (shape .smallest) x) .whole) ⌝ }
 {
     let Operand::Finite(a) = x else {
-        return Divided {
+        return Residue {
             value: pack(shape, x),
             quotient: 0,
         };
     };
     let Divisor::By(b) = y else {
-        return Divided {
+        return Residue {
             value: pack(shape, x),
             quotient: 0,
         };
     };
     let left = finish_pair(kind, a, b, gap(a, b));
     let value = left.value;
-    Divided {
+    Residue {
         value: pack(shape, value),
         quotient: quotient_bits(left.quotient),
     }

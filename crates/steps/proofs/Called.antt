@@ -19,7 +19,7 @@ use Rattle.definitions.specs.declared.Refusal.{Refusal}
 use Rattle.definitions.specs.declared.StepsAnswer.the-variants.{Refused}
 use Rattle.laws.proofs.Order.{refusal-refuses}
 use Rattle.chains.proofs.Run.{run-one}
-use Rattle.chains.proofs.Spent.{Verdict, refused, passed, refusal, numbered, result}
+use Rattle.chains.proofs.Spent.{Judgement, refused, passed, refusal, numbered, result}
 use Rattle.checks.proofs.Judged.{AcceptedPair, refusal-some, passes, accepted-pair}
 use Rattle.operands.specs.declared.Operand.{Operand}
 use Rattle.operands.specs.Operand.{operandOf, classIn, valueOperand, divisorOperand, divisorIn}
@@ -59,28 +59,28 @@ ended : (n : ℕ) (a b : Class) (k : ℕ) → numbered nothing n a b k ≡ cond 
 unfolding first
 ended n a b k = go (result nothing n a b)
   where
-    go : {i z : Bool} {number : ℕ → ℕ} → Verdict i z number → number k ≡ cond (eqb (number 0) 0) k (number 0)
+    go : {i z : Bool} {number : ℕ → ℕ} → Judgement i z number → number k ≡ cond (eqb (number 0) 0) k (number 0)
     go (refused r f o s e) = rw (e k, e 0, o)
     go (passed i z e) = rw (e k, e 0)
 
 module _ (u : ℕ) (κ : Kind) (n budget : ℕ) (a b : Class) where
-  reply : Outcome
-  reply = run κ n budget (divisorOf b) (dividendOf a)
+  outcome : Outcome
+  outcome = run κ n budget (divisorOf b) (dividendOf a)
 
   pub refused-call : (w : Refusal) → refusal nothing n a b ≡ refusalNumber w → stepsMeaning u (Refused w) ≡ callReport u κ n budget a b
-  unfolding first stepsMeaning reply
-  refused-call w e = rw (ended n a b (cond (not (reply .done)) u 0), e, refusal-some w, refusal-refuses w)
+  unfolding first stepsMeaning outcome
+  refused-call w e = rw (ended n a b (cond (not (outcome .done)) u 0), e, refusal-some w, refusal-refuses w)
 
   -- an accepted call's run, written down
   pub accepted-call : accepted u ≡ true → refusal nothing n a b ≡ 0 → (t : Ran) → t ≡ ranOf (run κ n budget (divisorOf b) (dividendOf a))
       → Representable x87 (run κ n budget (divisorOf b) (dividendOf a) .value .count) → ranReport u t ≡ callReport u κ n budget a b
-  unfolding first reply
+  unfolding first outcome
   accepted-call ok e t i h =
       ap (λ (s : Ran). ranReport u s) i
-      ∙ (λ j. record { number = cond (reply .done) 0 u; value = patternOf x87 (class-of x87 sound80 (finite (reply .value)) h j); quotient = bits-low (reply .whole) j; steps = reply .steps })
-      ∙ go (reply .done) ∙ sym (ap (λ (k : ℕ). reportOf k reply) (ended n a b (cond (not (reply .done)) u 0) ∙ rw e))
+      ∙ (λ j. record { number = cond (outcome .done) 0 u; value = patternOf x87 (class-of x87 sound80 (finite (outcome .value)) h j); quotient = bits-low (outcome .whole) j; steps = outcome .steps })
+      ∙ go (outcome .done) ∙ sym (ap (λ (k : ℕ). reportOf k outcome) (ended n a b (cond (not (outcome .done)) u 0) ∙ rw e))
     where
-      go : (d : Bool) → record { number = cond d 0 u; value = patternOf x87 (finite (reply .value)); quotient = quotientBits (reply .whole); steps = reply .steps } ≡ reportOf (cond (not d) u 0) reply
+      go : (d : Bool) → record { number = cond d 0 u; value = patternOf x87 (finite (outcome .value)); quotient = quotientBits (outcome .whole); steps = outcome .steps } ≡ reportOf (cond (not d) u 0) outcome
       go true = refl
       go false = rw ok
 

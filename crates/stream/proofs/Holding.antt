@@ -4,9 +4,9 @@ use mathlib.Core.List.{List}
 use Prim.Native.Nat.{ℕ}
 use native.Mathlib.Omega.{arith}
 use lib.ListN.{length, take, length-take}
-use Rattle.stream.specs.Stream.{Holds}
+use Rattle.stream.specs.Stream.{BeginsWith}
 
-pub holding : (list told : List ℕ) (n : ℕ) → take n list ≡ told → n ≡ length told → Holds list told n
+pub holding : (list told : List ℕ) (n : ℕ) → take n list ≡ told → n ≡ length told → BeginsWith list told n
 holding list told n e c =
     let part : n ≡ length (take n list) = c ∙ sym (ap length e) in
     record { bytes = e; end = c; inside = omega (arith, length-take n list); part = part }

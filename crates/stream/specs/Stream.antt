@@ -21,7 +21,7 @@ abbrev pub CutAnywhere : Type 0
 CutAnywhere = (pieces : List (List ℕ)) → inPieces [] pieces ≡ outputFor (flatten pieces)
 
 -- The first n bytes of a list are those told. The last two parts follow from the others: with them a caller lends that part with no proof of its own.
-pub record Holds (list told : List ℕ) (n : ℕ) : Type 0 where
+pub record BeginsWith (list told : List ℕ) (n : ℕ) : Type 0 where
   pub bytes : take n list ≡ told
   pub end : n ≡ length told
   pub inside : n ≤ length list
@@ -34,12 +34,12 @@ pub record Put (line out out' : List ℕ) (at next : ℕ) : Type 0 where
 
 -- the lines that end in an input answered, and where the line begins that has not ended
 pub record Passed (input out' : List ℕ) (pass : Pass) : Type 0 where
-  pub answers : Holds out' (written [] input) (pass .written)
+  pub answers : BeginsWith out' (written [] input) (pass .written)
   pub rest : drop (pass .begin) input ≡ begun [] input
   pub inside : pass .begin ≤ length input
 
 -- the same, and what is kept of the line that has begun
 pub record Turned (input buffer' out' : List ℕ) (turn : Turn) : Type 0 where
-  pub answers : Holds out' (written [] input) (turn .written)
-  pub rest : Holds buffer' (take keptBytes (begun [] input)) (turn .kept)
+  pub answers : BeginsWith out' (written [] input) (turn .written)
+  pub rest : BeginsWith buffer' (take keptBytes (begun [] input)) (turn .kept)
   pub short : turn .kept ≤ keptBytes

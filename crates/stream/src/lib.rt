@@ -5,7 +5,7 @@ ghost use mathlib.Core.Path.{_≡_};
 ghost use Prim.Native.Nat.{_+_, _-_, _*_, _≤_, min};
 ghost use lib.ListN.{length, take, drop};
 ghost use Rattle.definitions.specs.Line.{lastWritten};
-ghost use Rattle.stream.specs.Stream.{keptBytes, Holds, Put, Passed, Turned};
+ghost use Rattle.stream.specs.Stream.{keptBytes, BeginsWith, Put, Passed, Turned};
 
 // A line of input answered at a place of `out`, with a newline, and the place after that.
 fn answer_at(out: &mut [u8], at: usize, line: &[u8]) -> usize
@@ -87,7 +87,7 @@ pub fn answer_lines(buffer: &mut [u8], filled: usize, out: &mut [u8]) -> Turn
 // The last line, which needs no newline, answered.
 pub fn answer_last(line: &[u8], out: &mut [u8]) -> usize
     requires { ⌜ 21 ≤ length (now out) ⌝ }
-    ensures { λ r. ⌜ Holds (now (out .exit)) (lastWritten (now (line .entry))) r ⌝ }
+    ensures { λ r. ⌜ BeginsWith (now (out .exit)) (lastWritten (now (line .entry))) r ⌝ }
 {
     if line.len() == 0 {
         return 0;

@@ -10,30 +10,30 @@ use Rattle.block.proofs.write.Tie as tie
 enum-known-answer : tie.Need-enum-known-answer
 enum-known-answer c = search needs
 
-cast-fill : tie.Need-cast-fill
+cast-fill-block : tie.Need-cast-fill-block
 unfolding stepsMeaning
-cast-fill c =
+cast-fill-block c =
     let s = c .before .before .before .before .before in
     record { fits = rw (c .before .before .answer .given .1) at (s .pre .2) }
 
-fill-requires : tie.Need-fill-requires
+fill-block-requires : tie.Need-fill-block-requires
 unfolding stepsMeaning
-fill-requires c κs =
+fill-block-requires c κs =
     let s = c .before .before .before .before .before in
     (s .pre .0, rw (c .before .before .answer .given .1) at (s .pre .1))
 
 enum-known-answer-2 : tie.Need-enum-known-answer-2
 enum-known-answer-2 c = search needs
 
-cast-fill-2 : tie.Need-cast-fill-2
+cast-fill-block-2 : tie.Need-cast-fill-block-2
 unfolding stepsMeaning
-cast-fill-2 c =
+cast-fill-block-2 c =
     let s = c .before .before .before .before .before in
     record { fits = rw (c .before .before .answer2 .given .1) at (s .pre .2) }
 
-fill-requires-2 : tie.Need-fill-requires-2
+fill-block-requires-2 : tie.Need-fill-block-requires-2
 unfolding stepsMeaning
-fill-requires-2 c κs =
+fill-block-requires-2 c κs =
     let s = c .before .before .before .before .before in
     (s .pre .0, rw (c .before .before .answer2 .given .1) at (s .pre .1))
 
@@ -50,7 +50,7 @@ returns : tie.Need-returns
 unfolding stepsMeaning
 returns c =
     let v = c .before .before .before .before .before in
-    filled _ _ _ (v .answer .given .1) _ _ refl (c .before .before .fill .ensures)
+    filled _ _ _ (v .answer .given .1) _ _ refl (c .before .before .fill-block .ensures)
 
 same-length-2 : tie.Need-same-length-2
 same-length-2 c = search needs
@@ -59,7 +59,7 @@ returns-2 : tie.Need-returns-2
 unfolding stepsMeaning
 returns-2 c =
     let v = c .before .before .before .before .before in
-    filled _ _ _ (v .answer2 .given .1) _ _ (v .before .before .before .pre .3) (c .before .before .fill2 .ensures)
+    filled _ _ _ (v .answer2 .given .1) _ _ (v .before .before .before .pre .3) (c .before .before .fill-block2 .ensures)
 
 returns-3 : tie.Need-returns-3
 unfolding stepsMeaning
@@ -72,11 +72,11 @@ write-spec =
     tie.close
     (tie.spec
     enum-known-answer
-    cast-fill
-    fill-requires
+    cast-fill-block
+    fill-block-requires
     enum-known-answer-2
-    cast-fill-2
-    fill-requires-2
+    cast-fill-block-2
+    fill-block-requires-2
     enum-known-answer-3
     number-of-requires
     same-length

@@ -68,8 +68,8 @@ divisor-of-requires c κs = search needs
 accepts : (t : tie.After-enum-told) → let o = t .before .before .before in first (dividingList (classOf binary64 (o .before .before .before .before .before .before .args .y))) ≡ 0
 accepts t = let j = t .before .before in accepted-number (j .judge-divisor .result) _ (t .enum-told .given .1) (number-is j)
 
-fill-requires : tie.Need-fill-requires
-fill-requires c κs =
+fold-places-requires : tie.Need-fold-places-requires
+fold-places-requires c κs =
     let o = c .before .before .before .before .before .before in
     let e = o .before in
     (rw (c .divisor-of .ensures) (pattern-divisor-stands _ (o .of-pattern .result .operand) (o .of-pattern .ensures)), fit-results e, fit-quotients e)
@@ -91,7 +91,7 @@ returns-3 c =
     filled (a .kind) (a .y) (a .x .now) (a .results .now) (a .quotients .now) (fit-results e) (fit-quotients e) _ _ _ _
     (ap (divisorIn (binary64 .smallest)) (d .divisor-of .ensures) ∙ pattern-divisor-is _ (o .of-pattern .result .operand) (o .of-pattern .ensures) (accepts t))
     (accepts t)
-    (f .fill .ensures)
+    (f .fold-places .ensures)
 
 pub fold64-spec : {M : Type 1} → statement M
 fold64-spec =
@@ -105,7 +105,7 @@ fold64-spec =
     refused-requires-2
     enum-told
     divisor-of-requires
-    fill-requires
+    fold-places-requires
     returns-2
     same-length
     same-length-2

@@ -1,4 +1,4 @@
--- `fill` meets its contract. After i places both lists are filled from the front up to i. Assumes nothing.
+-- `fold_places` meets its contract. After i places both lists are filled from the front up to i. Assumes nothing.
 use mathlib.Core.Path.{_≡_, refl, sym, ap, _∙_}
 use mathlib.Core.List.{List}
 use mathlib.Core.Logic.{⊎-elim}
@@ -15,8 +15,8 @@ use Rattle.fold.proofs.Front.{front, front-more, front-all, count-marke
 use Rattle.operands.specs.Operand.{divisorIn}
 use Rattle.fold.specs.Places.{placeBy}
 use Rattle.fold.specs.declared.Place.{Place}
-use Rattle.fold.proofs.fill.Statement.{statement}
-use Rattle.fold.proofs.fill.Tie as tie
+use Rattle.fold.proofs.fold_places.Statement.{statement}
+use Rattle.fold.proofs.fold_places.Tie as tie
 
 -- what each place gets
 abbrev valueBy : Kind → Divisor → ℕ → ℕ
@@ -55,14 +55,14 @@ loop-holds c =
       as-many-quotients = s .pre .2;
     }
 
-mul-place-of : tie.Need-mul-place-of Inv-loop μ-loop
-mul-place-of c = omega arith
+mul-fold-place : tie.Need-mul-fold-place Inv-loop μ-loop
+mul-fold-place c = omega arith
 
-shared-slice-read-place-of : tie.Need-shared-slice-read-place-of Inv-loop μ-loop
-shared-slice-read-place-of c = omega arith
+shared-slice-read-fold-place : tie.Need-shared-slice-read-fold-place Inv-loop μ-loop
+shared-slice-read-fold-place c = omega arith
 
-place-of-requires : tie.Need-place-of-requires Inv-loop μ-loop
-place-of-requires c κs = c .before .before .before .before .before .before .pre .0
+fold-place-requires : tie.Need-fold-place-requires Inv-loop μ-loop
+fold-place-requires c κs = c .before .before .before .before .before .before .pre .0
 
 mul-results : tie.Need-mul-results Inv-loop μ-loop
 mul-results c = omega arith
@@ -86,7 +86,7 @@ loop-again : tie.Need-loop-again Inv-loop μ-loop
 loop-again c =
     let l = c .before .before .before .before .loop in
     let s = c .before .before .before .before .before .before .before .before in
-    let p = c .before .place-of in
+    let p = c .before .fold-place in
     let xs = s .args .x .now in
     let d = divisorIn (binary64 .smallest) (s .args .y) in
     let h : l .i < length xs = omega arith in
@@ -123,16 +123,16 @@ returns c =
       count = l .inv .count ∙ ap badPlaces (take-all (l .i) xs (omega arith));
     }
 
-pub fill-spec : {M : Type 1} → statement M
-fill-spec =
+pub fold-places-spec : {M : Type 1} → statement M
+fold-places-spec =
     tie.close
     (tie.spec
     Inv-loop
     μ-loop
     loop-holds
-    mul-place-of
-    shared-slice-read-place-of
-    place-of-requires
+    mul-fold-place
+    shared-slice-read-fold-place
+    fold-place-requires
     mul-results
     slice-write-results
     slice-write-quotients

@@ -1,4 +1,4 @@
--- `place_of` meets its contract: a NaN or infinite dividend gets the marked place, and any other its remainder. Assumes nothing.
+-- `fold_place` meets its contract: a NaN or infinite dividend gets the marked place, and any other its remainder. Assumes nothing.
 use mathlib.Core.Path.{_≡_, sym, _∙_}
 use mathlib.Core.Bool.{false}
 use mathlib.Core.Logic.{⊎-elim}
@@ -6,8 +6,8 @@ use borrow.Author.Needs.{needs}
 use Rattle.definitions.specs.Fold.{bad}
 use Rattle.shapes.proofs.Sounds.{sound64}
 use Rattle.fold.proofs.OnOperands.{bad-told, dividend-stands, written}
-use Rattle.fold.proofs.place_of.Statement.{statement}
-use Rattle.fold.proofs.place_of.Tie as tie
+use Rattle.fold.proofs.fold_place.Statement.{statement}
+use Rattle.fold.proofs.fold_place.Tie as tie
 
 of-pattern-requires : tie.Need-of-pattern-requires
 of-pattern-requires c κs = search needs
@@ -59,8 +59,8 @@ returns-2 c =
     (rw (h .shape .ensures) at (r .divide-by .ensures .0))
     (rw (h .shape .ensures) at (r .divide-by .ensures .1))
 
-pub place-of-spec : {M : Type 1} → statement M
-place-of-spec =
+pub fold-place-spec : {M : Type 1} → statement M
+fold-place-spec =
     tie.close
     (tie.spec
     of-pattern-requires

@@ -1,11 +1,11 @@
--- `fill` meets its contract: the stores leave the definition's sixteen bytes. Assumes nothing.
+-- `fill_block` meets its contract: the stores leave the definition's sixteen bytes. Assumes nothing.
 use mathlib.Core.Path.{_∙_}
 use native.Mathlib.Omega.{arith}
 use lib.ListN.{length-set}
 use Rattle.block.proofs.Filled.{filled}
 use borrow.Author.Needs.{needs}
-use Rattle.block.proofs.fill.Statement.{statement}
-use Rattle.block.proofs.fill.Tie as tie
+use Rattle.block.proofs.fill_block.Statement.{statement}
+use Rattle.block.proofs.fill_block.Tie as tie
 
 store8-requires : tie.Need-store8-requires
 store8-requires c κs = search needs
@@ -39,8 +39,8 @@ returns c =
     let a = start .args in
     filled (a .value .low) (a .value .high) (a .number) (a .quotient) (a .steps) (omega arith) (a .block .now) _ _ _ (start .pre .0) (q .store8 .ensures) (p .store2 .ensures) (c .before .before .store4 .ensures)
 
-pub fill-spec : {M : Type 1} → statement M
-fill-spec =
+pub fill-block-spec : {M : Type 1} → statement M
+fill-block-spec =
     tie.close
     (tie.spec
     store8-requires
