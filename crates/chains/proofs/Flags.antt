@@ -1,5 +1,5 @@
 -- The three flags of a finished step are its quotient bits. Assumes nothing.
-use mathlib.Core.Path.{_≡_, refl, sym}
+use mathlib.Core.Path.{_≡_, refl, sym, _∙_}
 use mathlib.Core.Bool.{Bool, true, false, cond}
 use Prim.Native.Nat.{ℕ, _+_, _*_, _/_, _%_, _<_}
 use native.Mathlib.Nat.{div-div-eq-div-mul}
@@ -9,6 +9,7 @@ use lib.Dec.{eqb}
 use Rattle.definitions.specs.Format.{classOf, x87}
 use Rattle.definitions.specs.declared.Kind.{Kind}
 use Rattle.definitions.specs.Division.{Outcome, dividendOf, divisorOf}
+use Rattle.definitions.specs.Remainder.{quotientBits}
 use Rattle.definitions.specs.Steps.{step, flagsOf}
 use Rattle.definitions.specs.Reports.{Lent, stepReport}
 
@@ -33,8 +34,14 @@ octant r = cond (flagsOf r .c0) 1 0 * 4 + cond (flagsOf r .c3) 1 0 * 2 + cond (f
 flags-are-bits : (r : Outcome) → octant r ≡ r .whole % 8
 flags-are-bits r = rw (bit (r .whole / 4 % 2) (omega arith), bit (r .whole / 2 % 2) (omega arith), bit (r .whole % 2) (omega arith)) (three (r .whole))
 
--- on a finished step it is the quotient that the step reports
+-- three bits are left of what an answer shows of a quotient
+bits-left : (w : ℕ) → w % 8 ≡ quotientBits w % 8
+bits-left w = omega arith
+
+-- on a finished step it is the three low bits of the quotient that the step reports
 pub finished-flags : (l : Lent) (κ : Kind) (n x y : ℕ) → stepReport l κ n x y .number ≡ 0
-    → octant (step κ n (divisorOf (classOf x87 y)) (dividendOf (classOf x87 x))) ≡ stepReport l κ n x y .quotient
+    → octant (step κ n (divisorOf (classOf x87 y)) (dividendOf (classOf x87 x))) ≡ stepReport l κ n x y .quotient % 8
 unfolding stepReport
-finished-flags l κ n x y e = rw e (flags-are-bits (step κ n (divisorOf (classOf x87 y)) (dividendOf (classOf x87 x))))
+finished-flags l κ n x y e =
+    let r = step κ n (divisorOf (classOf x87 y)) (dividendOf (classOf x87 x)) in
+    rw e (flags-are-bits r ∙ bits-left (r .whole))

@@ -5,7 +5,7 @@ use native.Mathlib.Omega.{arith}
 use Rattle.definitions.specs.Answers.{refusalNumber, joined}
 use Rattle.definitions.specs.declared.Refusal.{Refusal}
 use Rattle.definitions.specs.declared.Pattern.{Pattern}
-use Rattle.laws.proofs.Order.{refusal-refuses}
+use Rattle.laws.proofs.Refusals.{refusal-refuses}
 use Rattle.interface.specs.Interface.{after, significandIn, wordIn}
 
 -- a refusal leaves what was lent

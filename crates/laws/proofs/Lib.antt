@@ -12,5 +12,5 @@ pub mod Round
 pub mod Scaling
 pub mod Splitting
 pub mod Small
-pub mod Order
+pub mod Refusals
 pub mod Bytes

@@ -1,25 +1,27 @@
 -- What a line shows in one digit each is below ten. Assumes nothing.
-use mathlib.Core.Bool.{Bool, true, false, cond}
+use mathlib.Core.Bool.{Bool, true, false, cond, _||_}
 use Prim.Native.Nat.{ℕ, _%_, _≤_}
 use native.Mathlib.Omega.{arith}
 use lib.Dec.{lit≤}
 use Rattle.definitions.specs.declared.Kind.{Kind}
-use Rattle.definitions.specs.declared.Refusal.{Refusal}
-use Rattle.definitions.specs.declared.Refusal.the-variants as why
 use Rattle.definitions.specs.Format.{Format, classOf}
-use Rattle.definitions.specs.Numbers.{first, accepted, dividing}
+use Rattle.definitions.specs.Numbers.{first, accepted, dividing, isUnsupported, isNan, isInfinite, isZero}
 use Rattle.definitions.specs.Division.{finish, dividendOf, divisorOf}
 use Rattle.definitions.specs.Remainder.{remainderOf, remainder, quotientModulus}
-use Rattle.definitions.specs.Answers.{refusalNumber}
 
-pub refusal-digit : (w : Refusal) → refusalNumber w ≤ 9
-refusal-digit why.Misfit = lit≤ tt
-refusal-digit why.Missized = lit≤ tt
-refusal-digit why.Unsupported = lit≤ tt
-refusal-digit why.Nan = lit≤ tt
-refusal-digit why.Infinite = lit≤ tt
-refusal-digit why.ZeroDivisor = lit≤ tt
-refusal-digit why.ZeroSplit = lit≤ tt
+number-shown : (two three four five : Bool) → cond two 2 (cond three 3 (cond four 4 (cond five 5 0))) ≤ 9
+number-shown true three four five = lit≤ tt
+number-shown false true four five = lit≤ tt
+number-shown false false true five = lit≤ tt
+number-shown false false false true = lit≤ tt
+number-shown false false false false = lit≤ tt
+
+pub number-digit : (f : Format) (κ : Kind) (x y : ℕ) → remainder f κ x y .number ≤ 9
+unfolding remainder remainderOf first
+number-digit f κ x y =
+    let a = classOf f x in
+    let b = classOf f y in
+    number-shown (isUnsupported a || isUnsupported b) (isNan a || isNan b) (isInfinite a) (isZero b)
 
 quotient-shown : (t : Bool) (q : ℕ) → cond t (q % quotientModulus) 0 ≤ 9
 quotient-shown true q = omega arith

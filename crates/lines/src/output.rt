@@ -43,9 +43,10 @@ fn digits_line(value: u64, quotient_digit: u8, number_digit: u8) -> Output
     Output { bytes, len: 20 }
 }
 
-// The line of an answer. Only `answer_line` calls it, with an answer of `remainder64`, whose quotient bits are below 8: one digit.
+// The line of an answer. Only `answer_line` calls it, with an answer of `remainder64`: quotient bits and number have one
+// digit each.
 pub fn line_of_answer(answer: RemainderAnswer) -> Output
-    requires { ⌜ (remainderMeaning binary64 answer .value < 2 ^ 64) × (remainderMeaning binary64 answer .quotient ≤ 9) ⌝ }
+    requires { ⌜ (remainderMeaning binary64 answer .value < 2 ^ 64) × (remainderMeaning binary64 answer .quotient ≤ 9) × (remainderMeaning binary64 answer .number ≤ 9) ⌝ }
     ensures { λ r. ⌜ r ≡ outputOf (answerLine (remainderMeaning binary64 answer)) ⌝ }
 {
     match answer {

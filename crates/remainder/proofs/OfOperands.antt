@@ -15,7 +15,7 @@ use Rattle.operands.specs.Operand.{classIn, valueOperand, divisorOperand, divis
 use Rattle.shapes.specs.Shape.{Sound}
 use Rattle.packing.specs.Stands.{Stands, StandsValue}
 use Rattle.packing.proofs.Standing.{stands-finite, divisor-is}
-use Rattle.laws.proofs.Order.{refusal-refuses}
+use Rattle.laws.proofs.Refusals.{refusal-refuses}
 use Rattle.checks.proofs.Judged.{AcceptedPair, accepted-pair}
 use Rattle.remainder.proofs.ByDivisor.{Writes}
 

@@ -17,7 +17,7 @@ use Rattle.definitions.specs.Answers.{refusalNumber, stepsMeaning}
 use Rattle.definitions.specs.declared.Kind.{Kind}
 use Rattle.definitions.specs.declared.Refusal.{Refusal}
 use Rattle.definitions.specs.declared.StepsAnswer.the-variants.{Refused}
-use Rattle.laws.proofs.Order.{refusal-refuses}
+use Rattle.laws.proofs.Refusals.{refusal-refuses}
 use Rattle.chains.proofs.Run.{run-one}
 use Rattle.chains.proofs.Spent.{Judgement, refused, passed, refusal, numbered, result}
 use Rattle.checks.proofs.Judged.{AcceptedPair, refusal-some, passes, accepted-pair}

@@ -1,7 +1,7 @@
 -- `write` meets its contract: an answer fills the block and a refusal leaves it. Assumes nothing.
 use mathlib.Core.Path.{refl}
 use Rattle.definitions.specs.Answers.{stepsMeaning}
-use Rattle.laws.proofs.Order.{refusal-refuses}
+use Rattle.laws.proofs.Refusals.{refusal-refuses}
 use Rattle.block.proofs.Written.{filled, untouched}
 use borrow.Author.Needs.{needs}
 use Rattle.block.proofs.write.Statement.{statement}

@@ -7,7 +7,6 @@ use Rattle.definitions.specs.Format.{binary64}
 use Rattle.definitions.specs.Answers.{remainderMeaning, joined}
 use Rattle.definitions.specs.Line.{answerLine}
 use Rattle.definitions.specs.declared.RemainderAnswer.{RemainderAnswer}
-use Rattle.lines.proofs.OneDigit.{refusal-digit}
 use Rattle.lines.proofs.output.line_of_answer.Statement.{statement}
 use Rattle.lines.proofs.output.line_of_answer.Tie as tie
 
@@ -43,7 +42,11 @@ number-of-requires : tie.Need-number-of-requires
 number-of-requires c κs = search needs
 
 add-digits-line-2 : tie.Need-add-digits-line-2
-add-digits-line-2 c = rw (c .number-of .ensures) (omega (arith, refusal-digit (c .before .before .answer2 .given .0 .0)))
+unfolding remainderMeaning
+add-digits-line-2 c =
+    let s = c .before .before .before .before in
+    let n = subst (λ (a : RemainderAnswer). remainderMeaning binary64 a .number ≤ 9) (c .before .before .answer2 .given .1) (s .pre .2) in
+    rw (c .number-of .ensures) (omega (arith, n))
 
 digits-line-requires-2 : tie.Need-digits-line-requires-2
 digits-line-requires-2 c κs = search needs
