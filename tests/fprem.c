@@ -81,7 +81,7 @@ static int is_nan(struct pattern x) {
     return (x.word & 32767) == 32767 && x.bits << 1 != 0;
 }
 
-/* The processor takes e = 0 with J = 1 as a number, document 01 refuses it: nothing to compare. */
+/* The processor takes e = 0 with J = 1 as a number, the library refuses it: nothing to compare. */
 static int is_pseudo_denormal(struct pattern x) {
     return (x.word & 32767) == 0 && x.bits >> 63;
 }
@@ -251,7 +251,7 @@ static void compare_scaling(uint64_t cases, uint64_t *state) {
     printf("scaling: %" PRIu64 " cases, %" PRIu64 " rounded, %" PRIu64 " refused by both\n", compared, rounded, refused);
 }
 
-/* Only nonzero finite values: FXTRACT answers zeros and infinities otherwise than document 01. */
+/* Only nonzero finite values: FXTRACT answers zeros and infinities otherwise than the library. */
 static void compare_splitting(uint64_t cases, uint64_t *state) {
     uint64_t i;
     for (i = 0; going(i, cases); i++) {

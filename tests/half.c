@@ -1,6 +1,6 @@
 /*
  * binary16 by binary16, both kinds, against whole-number division: every finite binary16 value is a count of 2^-24 below 2^40, so that
- * document 01's definition can be run as it is written.
+ * the scope's definition can be run as it is written.
  *
  *   half [STRIDE]    every STRIDE-th divisor for each dividend (251); 1 is all 2^32 pairs
  */

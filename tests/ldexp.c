@@ -17,7 +17,7 @@ struct theirs {
     uint8_t scale_number, split_number;
 };
 
-/* frexp's significand is from a half to below 1, and document 01's from 1 to below 2. */
+/* frexp's significand is from a half to below 1, and the library's from 1 to below 2. */
 #define ASK(NAME, TYPE, LDEXP, FREXP, OF_PATTERN, TO_PATTERN)                                                                              \
     static struct theirs NAME(struct pattern px, int power) {                                                                             \
         TYPE x = OF_PATTERN(px), scaled = LDEXP(x, power), back = LDEXP(scaled, -power), significand;                                      \

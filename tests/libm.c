@@ -15,7 +15,7 @@
 struct theirs {
     struct pattern truncated, nearest; /* fmod's and remquo's */
     int quotient;                      /* as remquo stores it */
-    uint8_t number;                    /* what document 01 gives for these classes of operands */
+    uint8_t number;                    /* what the scope gives for these classes of operands */
     int is_nan;                        /* all three gave a NaN */
     int disputed;                      /* remainder is not remquo's */
     int decided;                       /* and IEEE 754 decides for remquo's */

@@ -229,7 +229,7 @@ static inline struct pair any_pair(int f, uint64_t *state) {
     }
 }
 
-/* An x87 pattern that document 01 calls unsupported. */
+/* An x87 pattern that the scope calls unsupported. */
 static inline int is_unsupported(struct pattern x) {
     int e = x.word & 32767, j = (int)(x.bits >> 63);
     return e == 0 ? j : !j;

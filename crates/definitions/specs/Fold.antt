@@ -14,7 +14,7 @@ use Rattle.definitions.specs.Remainder.{remainder}
 abbrev pub dividingList : Class → List Check
 dividingList y = check 3 (isNan y) ∷ check 5 (isZero y) ∷ []
 
--- [8.1] the lengths are looked at before it
+-- [7.3, 8.1] the lengths are looked at before it
 abbrev pub folding : ℕ → ℕ → ℕ → Class → List Check
 folding xs results quotients y = check 9 (not (eqb results xs && eqb quotients xs)) ∷ dividingList y
 
@@ -22,6 +22,7 @@ folding xs results quotients y = check 9 (not (eqb results xs && eqb quotients x
 abbrev pub bad : ℕ → Bool
 bad x = isNan (classOf binary64 x) || isInfinite (classOf binary64 x)
 
+-- [8.3, 8.4] what a place gets: the remainder, or the house NaN, and the byte
 unfoldable pub resultAt : Kind → ℕ → ℕ → ℕ
 resultAt κ y x = remainder binary64 κ x y .value
 

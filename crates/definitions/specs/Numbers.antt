@@ -18,7 +18,7 @@ unfoldable pub first : List Check → ℕ
 first [] = 0
 first (c ∷ cs) = cond (c .test) (c .number) (first cs)
 
--- [7.3] the order of all checks; every list of them follows it (laws, `in-order`)
+-- [7.3] the order of all checks; every list of them follows it (`in-order`)
 abbrev pub fixedOrder : List ℕ
 fixedOrder = 9 ∷ 6 ∷ 2 ∷ 3 ∷ 4 ∷ 5 ∷ 8 ∷ 7 ∷ 1 ∷ []
 

@@ -45,7 +45,7 @@ stepping l n x y partial = calling l n ++ (dividing x y ++ (check 1 partial ∷ 
 abbrev pub running : Lent → ℕ → Class → Class → Bool → List Check
 running l n x y spent = calling l n ++ (dividing x y ++ (check 7 spent ∷ []))
 
--- [7.5] a refusal shows the house NaN and has no quotient bits and no steps
+-- [2.9, 7.5] a refusal shows the house NaN and has no quotient bits and no steps
 abbrev pub reportOf : ℕ → Outcome → Report ℕ
 reportOf n r =
     record {

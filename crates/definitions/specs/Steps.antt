@@ -41,7 +41,7 @@ unfolding stepBy finish
 step κ n unbounded x = finish κ unbounded x
 step κ n (by m) x = stepBy κ n m x
 
--- r, and then s from r's value
+-- [4.7] r, and then s from r's value: quotient parts and steps add up
 abbrev pub followed : Outcome → Outcome → Outcome
 followed r s = record { done = s .done; value = s .value; whole = r .whole + s .whole; steps = r .steps + s .steps }
 

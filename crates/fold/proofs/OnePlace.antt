@@ -44,7 +44,7 @@ finite-class (finite v) u g = refl
 pub good-finite : (x : ℕ) → bad x ≡ false → classOf binary64 x ≡ finite (dividendOf (classOf binary64 x))
 good-finite x = finite-class (classOf binary64 x) (supported binary64 x refl)
 
--- "Quotient bits are those of |Q| modulo 8": none is the mark
+-- no quotient bits are the mark
 quotient-small : (q : ℕ) → quotientBits q < quotientModulus
 quotient-small q = mod-lt q (lit< tt)
 

@@ -7,7 +7,7 @@ ghost use mathlib.Core.Path.{_≡_};
 ghost use Rattle.definitions.specs.Block.{kindOf};
 ghost use Rattle.interface.specs.Interface.{saysNumber};
 
-// "0 is truncated, any other is nearest."
+// 0 is truncated, any other is nearest.
 pub fn kind_of(kind: u32) -> Kind
     ensures { λ r. ⌜ r ≡ kindOf kind ⌝ }
 {

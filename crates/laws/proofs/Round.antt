@@ -1,4 +1,4 @@
--- The cut by a number of binary places: exact multiples, a common place, and what it does to the digits. Assumes nothing.
+-- Rounding by a number of binary places: exact multiples, a common place, and what it does to the digits. Assumes nothing.
 use mathlib.Core.Path.{_≡_, refl, sym, ap, _∙_}
 use mathlib.Core.Bool.{Bool, true, false, not, cond, _&&_}
 use Prim.Native.Nat.{ℕ, _+_, _-_, _*_, _/_, _%_, _^_, _≤_, _<_}
@@ -60,7 +60,7 @@ round-near n k = go (roundsUp Nearest (n / 2 ^ k) (n % 2 ^ k) (2 ^ k))
     go true = omega arith
     go false = omega arith
 
--- and no more than what is cut
+-- and no more than what is rounded
 pub round-le : (n k : ℕ) → round n k .quotient ≤ n
 round-le n k = go (eqb (n % 2 ^ k) 0) (eqb-true (n % 2 ^ k) 0) (eqb-false (n % 2 ^ k) 0)
   where

@@ -1,4 +1,4 @@
-// One line of input answered by one line of output: document 01, "The line program".
+// One line of input answered by one line of output.
 mod output;
 
 use definitions::Kind;

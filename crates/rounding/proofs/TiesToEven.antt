@@ -1,4 +1,4 @@
--- The cut by one test: a quotient goes up where twice the left-over, and one more if the quotient is odd, pass the divisor.
+-- Rounding by one test: a quotient goes up where twice the left-over, and one more if the quotient is odd, pass the divisor.
 -- Assumes nothing.
 use mathlib.Core.Path.{_≡_, refl}
 use mathlib.Core.Bool.{Bool, true, false, cond}
@@ -31,12 +31,12 @@ module _ (q r m : ℕ) where
       go false false e f = refl
 
 module _ (n k : ℕ) where
-  -- the cut is one rounding of the quotient and the remainder by the power
+  -- it is one rounding of the quotient and the remainder by the power
   pub round-rounded : roundOf n k ≡ roundedOf (n / 2 ^ k) (n % 2 ^ k) (ltb (2 ^ k) (n % 2 ^ k * 2 + n / 2 ^ k % 2))
   unfolding round
   round-rounded = rounded-once (n / 2 ^ k) (n % 2 ^ k) (2 ^ k) (pow-pos k)
 
-  -- all of n is cut off
+  -- all of n is left over
   pub round-whole : n < 2 ^ k → roundOf n k ≡ roundedOf 0 n (ltb (2 ^ k) (n * 2))
   round-whole h = rw (div-eq-of-lt h, mod-eq-of-lt h, add-zero) at round-rounded
 

@@ -1,4 +1,4 @@
--- What the code of the cut answers: the definition's record, as the code's. Definitions only.
+-- What the code of rounding answers: the definition's record, as the code's. Definitions only.
 use Prim.Native.Nat.{ℕ, _+_}
 use mathlib.Core.Bool.{Bool, cond}
 use lib.Dec.{eqb}
@@ -9,7 +9,7 @@ use Rattle.rounding.specs.declared.RoundedWord.{RoundedWord}
 abbrev pub roundOf : ℕ → ℕ → RoundedWord
 roundOf n places = record { quotient = round n places .quotient; says = round n places .says }
 
--- a cut quotient, exact where nothing is left over, else one more where it goes up
+-- a quotient, exact where nothing is left over, else one more where it goes up
 abbrev pub roundedOf : ℕ → ℕ → Bool → RoundedWord
 roundedOf q r up =
     cond (eqb r 0) (record { quotient = q; says = Exact })
