@@ -13,11 +13,11 @@ use Rattle.definitions.specs.Numbers.{Check, first, dividing, isUnsupported, is
 use Rattle.definitions.specs.Fold.{dividingList}
 use Rattle.definitions.specs.Answers.{refusalNumber}
 use Rattle.definitions.specs.declared.Refusal.{Refusal}
-use Rattle.definitions.specs.declared.Refusal.the-variants as why
 use Rattle.operands.specs.declared.Operand.{Operand}
 use Rattle.operands.specs.Operand.{operandOf}
 use Rattle.operands.proofs.Lead.{by-count}
 use Rattle.digits.proofs.Tests.{not-zero, clash}
+use Rattle.laws.proofs.Refusals.{refusal-refuses}
 use Rattle.checks.specs.Verdict.{verdictNumber, unsupportedOperand, nanOperand, infiniteOperand, zeroOperand}
 use Rattle.checks.specs.declared.Verdict.{Verdict}
 use Rattle.checks.specs.declared.Verdict.the-variants.{Accepted, Refused}
@@ -69,15 +69,13 @@ module _ (s : ℤ) (b : Class) (y : Operand) (ey : y ≡ operandOf s b) where
   unfolding first
   pair-number a x ex = rw (ex, ey, unsupported-told s a, unsupported-told s b, nan-told s a, nan-told s b, infinite-told s a, zero-told s b)
 
+neither : (a b : Bool) → a || b ≡ false → (a ≡ false) × (b ≡ false)
+neither true b e = clash (cc)
+neither false b e = (refl, e)
+
 -- the number of a refusal is not 0
 pub refusal-some : (w : Refusal) → eqb (refusalNumber w) 0 ≡ false
-refusal-some why.Misfit = refl
-refusal-some why.Missized = refl
-refusal-some why.Unsupported = refl
-refusal-some why.Nan = refl
-refusal-some why.Infinite = refl
-refusal-some why.ZeroDivisor = refl
-refusal-some why.ZeroSplit = refl
+refusal-some w = neither _ _ (neither _ _ (refusal-refuses w) .0) .0
 
 -- the number that a verdict gives
 pub refused-number : (r : Verdict) (w : Refusal) (n : ℕ) → r ≡ Refused w → verdictNumber r ≡ n → n ≡ refusalNumber w
@@ -94,10 +92,6 @@ passes c cs h e = go (c .test) refl e
     go : (t : Bool) → c .test ≡ t → cond t (c .number) (first cs) ≡ 0 → (c .test ≡ false) × (first cs ≡ 0)
     go true p q = absurd (omega arith)
     go false p q = (p, q)
-
-neither : (a b : Bool) → a || b ≡ false → (a ≡ false) × (b ≡ false)
-neither true b e = clash (cc)
-neither false b e = (refl, e)
 
 -- a divisor that was accepted is infinite, or finite and not zero
 pub record AcceptedDivisor (b : Class) : Type 0 where

@@ -1,13 +1,11 @@
-// The checks of the operations on their operands, in the order of the numbers, and the number of a refusal.
+// What the checks of the operations come to, its number, and the tests on an operand.
+pub mod list;
+pub mod pair;
+
 use definitions::Refusal;
 use operands::Operand;
 ghost use mathlib.Core.Path.{_≡_};
-ghost use lib.IntN.{ℤ};
-ghost use Rattle.definitions.specs.Class.{Class};
-ghost use Rattle.definitions.specs.Numbers.{first, dividing};
-ghost use Rattle.definitions.specs.Fold.{dividingList};
 ghost use Rattle.definitions.specs.Answers.{refusalNumber};
-ghost use Rattle.operands.specs.Operand.{operandOf};
 ghost use Rattle.checks.specs.Verdict.{verdictNumber, unsupportedOperand, nanOperand, infiniteOperand, zeroOperand};
 
 // What the checks come to.
@@ -27,6 +25,15 @@ pub fn number_of(why: Refusal) -> u8
         Refusal::Infinite => 4,
         Refusal::ZeroDivisor => 5,
         Refusal::ZeroSplit => 8,
+    }
+}
+
+pub fn verdict_number(verdict: Verdict) -> u8
+    ensures { λ r. ⌜ r ≡ verdictNumber verdict ⌝ }
+{
+    match verdict {
+        Verdict::Accepted => 0,
+        Verdict::Refused(why) => number_of(why),
     }
 }
 
@@ -64,36 +71,4 @@ fn is_zero(x: Operand) -> bool
     } else {
         false
     }
-}
-
-// A dividend x and a divisor y: 2, 3, 4 and 5.
-pub fn judge_pair(x: Operand, y: Operand) -> Verdict
-    ensures { λ r. ⌜ ((s : ℤ) (a b : Class) → x ≡ operandOf s a → y ≡ operandOf s b → verdictNumber r ≡ first (dividing a b)) ⌝ }
-{
-    if is_unsupported(x) || is_unsupported(y) {
-        return Verdict::Refused(Refusal::Unsupported);
-    }
-    if is_nan(x) || is_nan(y) {
-        return Verdict::Refused(Refusal::Nan);
-    }
-    if is_infinite(x) {
-        return Verdict::Refused(Refusal::Infinite);
-    }
-    if is_zero(y) {
-        return Verdict::Refused(Refusal::ZeroDivisor);
-    }
-    Verdict::Accepted
-}
-
-// The divisor of a whole list: 3 and 5.
-pub fn judge_divisor(y: Operand) -> Verdict
-    ensures { λ r. ⌜ ((s : ℤ) (b : Class) → y ≡ operandOf s b → verdictNumber r ≡ first (dividingList b)) ⌝ }
-{
-    if is_nan(y) {
-        return Verdict::Refused(Refusal::Nan);
-    }
-    if is_zero(y) {
-        return Verdict::Refused(Refusal::ZeroDivisor);
-    }
-    Verdict::Accepted
 }

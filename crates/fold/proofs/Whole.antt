@@ -1,5 +1,5 @@
 -- The whole list: its number, and what is left of the lent lists. Assumes nothing.
-use mathlib.Core.Path.{_≡_, refl, _∙_}
+use mathlib.Core.Path.{_≡_, refl, sym, _∙_}
 use mathlib.Core.Bool.{false, not, cond, _&&_}
 use mathlib.Core.List.{List, map}
 use Prim.Native.Nat.{ℕ}
@@ -12,11 +12,8 @@ use Rattle.definitions.specs.Division.{Divisor, divisorOf}
 use Rattle.definitions.specs.Fold.{Folded, dividingList, badPlaces, foldList}
 use Rattle.definitions.specs.Answers.{refusalNumber}
 use Rattle.definitions.specs.declared.Kind.{Kind}
-use Rattle.definitions.specs.declared.Refusal.{Refusal}
 use Rattle.definitions.specs.declared.Refusal.the-variants.{Misfit}
-use Rattle.checks.proofs.Judged.{refusal-some}
-use Rattle.fold.specs.Places.{Filled, foldMeaning}
-use Rattle.fold.specs.declared.FoldAnswer.{FoldAnswer}
+use Rattle.fold.specs.Places.{Filled}
 use Rattle.fold.proofs.OnePlace.{value-at, byte-at}
 
 module _ (κ : Kind) (y : ℕ) (xs results quotients : List ℕ) where
@@ -27,29 +24,35 @@ module _ (κ : Kind) (y : ℕ) (xs results quotients : List ℕ) where
   unfolding foldList first
   number-is = refl
 
-  -- a refusal leaves both lists and counts nothing
-  refuses : (a : FoldAnswer) (w : Refusal) → (a .number ≡ refusalNumber w) × (a .marked ≡ 0) → whole .number ≡ refusalNumber w → foldMeaning a results quotients ≡ whole
+  -- a number, with both lists left and nothing counted
+  abbrev untouched : ℕ → Folded
+  untouched n = record { number = n; results = results; quotients = quotients; marked = 0 }
+
+  -- so is a call whose number is not 0
+  refuses : (n : ℕ) → eqb n 0 ≡ false → whole .number ≡ n → untouched n ≡ whole
   unfolding foldList
-  refuses a w r e = rw (e, refusal-some w, r .0, r .1)
+  refuses n h e = rw (e, h)
 
-  module _ (a : FoldAnswer) (r : (a .number ≡ refusalNumber Misfit) × (a .marked ≡ 0)) where
-    pub results-misfit : (length results ≡ length xs → ⊥) → foldMeaning a results quotients ≡ whole
-    results-misfit h = refuses a Misfit r (number-is ∙ rw (ne-eqb _ _ h))
+  module _ (n : ℕ) (is : n ≡ refusalNumber Misfit) where
+    misfit : whole .number ≡ 9 → untouched n ≡ whole
+    misfit e = rw is (refuses 9 refl e)
 
-    pub quotients-misfit : length results ≡ length xs → eqb (length quotients) (length xs) ≡ false → foldMeaning a results quotients ≡ whole
-    quotients-misfit e h = refuses a Misfit r (number-is ∙ rw (eq-eqb _ _ e, h))
+    pub results-misfit : (length results ≡ length xs → ⊥) → untouched n ≡ whole
+    results-misfit h = misfit (number-is ∙ rw (ne-eqb _ _ h))
 
-  module _ (er : length results ≡ length xs) (eq : length quotients ≡ length xs) where
-    fits : whole .number ≡ first (dividingList (classOf binary64 y))
-    fits = number-is ∙ rw (eq-eqb _ _ er, eq-eqb _ _ eq)
+    pub quotients-misfit : length results ≡ length xs → eqb (length quotients) (length xs) ≡ false → untouched n ≡ whole
+    quotients-misfit e h = misfit (number-is ∙ rw (eq-eqb _ _ e, h))
 
-    pub divisor-refused : (a : FoldAnswer) (w : Refusal) → (a .number ≡ refusalNumber w) × (a .marked ≡ 0) → first (dividingList (classOf binary64 y)) ≡ refusalNumber w
-        → foldMeaning a results quotients ≡ whole
-    divisor-refused a w r e = refuses a w r (fits ∙ e)
+  module _ (er : length results ≡ length xs) (eq : length quotients ≡ length xs) (n : ℕ) (is : n ≡ first (dividingList (classOf binary64 y))) where
+    fits : whole .number ≡ n
+    fits = number-is ∙ rw (eq-eqb _ _ er, eq-eqb _ _ eq, is)
 
-    pub filled : (d : Divisor) (results' quotients' : List ℕ) (marked : ℕ) → d ≡ divisorOf (classOf binary64 y) → first (dividingList (classOf binary64 y)) ≡ 0
-        → Filled κ d xs results' quotients' marked → record { number = 0; results = results'; quotients = quotients'; marked = marked } ≡ whole
+    pub divisor-refused : (n ≡ 0 → ⊥) → untouched n ≡ whole
+    divisor-refused h = refuses n (ne-eqb n 0 h) fits
+
+    pub filled : n ≡ 0 → (d : Divisor) (results' quotients' : List ℕ) (marked : ℕ) → d ≡ divisorOf (classOf binary64 y) → Filled κ d xs results' quotients' marked
+        → record { number = n; results = results'; quotients = quotients'; marked = marked } ≡ whole
     unfolding foldList
-    filled d results' quotients' marked is n f =
-        rw (fits ∙ n, f .values, f .bytes, f .count, is)
-        (λ i. record { number = 0; results = map (λ x. value-at κ y x n i) xs; quotients = map (λ x. byte-at κ y x n i) xs; marked = badPlaces xs })
+    filled z d results' quotients' marked by f =
+        rw (fits, z, f .values, f .bytes, f .count, by)
+        (λ i. record { number = 0; results = map (λ x. value-at κ y x (sym is ∙ z) i) xs; quotients = map (λ x. byte-at κ y x (sym is ∙ z) i) xs; marked = badPlaces xs })

@@ -1,9 +1,9 @@
 // Folding of a list of binary64 patterns by one divisor, into lists that the caller lends.
-use checks::Verdict;
 use checks::is_infinite;
 use checks::is_nan;
-use checks::judge_divisor;
+use checks::list::judge_divisor;
 use checks::number_of;
+use checks::verdict_number;
 use definitions::Kind;
 use definitions::Refusal;
 use formats::binary::Binary64;
@@ -14,7 +14,6 @@ ghost use mathlib.Core.Path.{_≡_};
 ghost use lib.ListN.{length};
 ghost use Rattle.definitions.specs.Format.{binary64};
 ghost use Rattle.definitions.specs.Fold.{foldList};
-ghost use Rattle.definitions.specs.Answers.{refusalNumber};
 ghost use Rattle.operands.specs.Operand.{divisorIn};
 ghost use Rattle.packing.specs.Stands.{StandsDivisor};
 ghost use Rattle.fold.specs.Places.{foldMeaning, placeBy, Filled};
@@ -79,15 +78,6 @@ fn fold_places(
     marked
 }
 
-fn refused(why: Refusal) -> FoldAnswer
-    ensures { λ r. ⌜ (r .number ≡ refusalNumber why) × (r .marked ≡ 0) ⌝ }
-{
-    FoldAnswer {
-        number: number_of(why),
-        marked: 0,
-    }
-}
-
 // The lengths, 9, and the divisor, 3 and 5, are judged once, before anything is written.
 pub fn fold64(
     x: &[u64],
@@ -99,14 +89,16 @@ pub fn fold64(
     ensures { λ r. ⌜ foldMeaning r (now (results .exit)) (now (quotients .exit)) ≡ foldList kind y (now (x .entry)) (now (results .entry)) (now (quotients .entry)) ⌝ }
 {
     if results.len() != x.len() || quotients.len() != x.len() {
-        return refused(Refusal::Misfit);
+        return FoldAnswer {
+            number: number_of(Refusal::Misfit),
+            marked: 0,
+        };
     }
     let divisor = Binary64::of_pattern(y).operand;
-    match judge_divisor(divisor) {
-        Verdict::Refused(why) => refused(why),
-        Verdict::Accepted => FoldAnswer {
-            number: 0,
-            marked: fold_places(x, results, quotients, divisor_of(divisor), kind),
-        },
+    let number = verdict_number(judge_divisor(divisor));
+    if number != 0 {
+        return FoldAnswer { number, marked: 0 };
     }
+    let marked = fold_places(x, results, quotients, divisor_of(divisor), kind);
+    FoldAnswer { number, marked }
 }

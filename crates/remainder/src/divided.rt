@@ -1,7 +1,7 @@
 // The remainder of operands, the same for every format: judge, divide, pack. Only crates of this repository call these, with operands as
 // `formats` unpacks them.
 use checks::Verdict;
-use checks::judge_pair;
+use checks::pair::judge_pair;
 use definitions::Kind;
 use definitions::Pattern;
 use definitions::RemainderAnswer;

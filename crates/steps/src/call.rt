@@ -2,7 +2,7 @@
 use crate::run::Ran;
 use crate::run::run_value;
 use checks::Verdict;
-use checks::judge_pair;
+use checks::pair::judge_pair;
 use definitions::Kind;
 use definitions::Refusal;
 use definitions::StepsAnswer;

@@ -1,13 +1,12 @@
 -- `fold64` meets its contract: each refusal leaves the lent lists, and an accepted list is filled. Assumes nothing.
-use mathlib.Core.Path.{_≡_, ap, _∙_}
+use mathlib.Core.Path.{_≡_, sym, ap, _∙_}
 use mathlib.Core.Logic.{⊎-elim}
+use native.Mathlib.Omega.{arith}
 use lib.ListN.{length}
 use Rattle.definitions.specs.Format.{classOf, binary64}
 use Rattle.definitions.specs.Numbers.{first}
 use Rattle.definitions.specs.Fold.{dividingList}
 use Rattle.operands.specs.Operand.{divisorIn}
-use Rattle.checks.specs.Verdict.{verdictNumber}
-use Rattle.checks.proofs.Judged.{refused-number, accepted-number}
 use Rattle.fold.proofs.OnOperands.{pattern-divisor-stands, pattern-divisor-is}
 use Rattle.fold.proofs.Whole.{results-misfit, quotients-misfit, divisor-refused, filled}
 use borrow.Author.Needs.{needs}
@@ -15,16 +14,16 @@ use borrow.Author.Tests.{eqb-true, not-true, not-false}
 use Rattle.fold.proofs.fold64.Statement.{statement}
 use Rattle.fold.proofs.fold64.Tie as tie
 
-refused-requires : tie.Need-refused-requires
-refused-requires c κs = search needs
+number-of-requires : tie.Need-number-of-requires
+number-of-requires c κs = search needs
 
 returns : tie.Need-returns
 returns c =
     let j = c .before in
     let a = j .before .before .before .before .args in
     ⊎-elim
-    (λ w. results-misfit (a .kind) (a .y) (a .x .now) (a .results .now) (a .quotients .now) (c .refused .result) (c .refused .ensures) (w .taken))
-    (λ w. quotients-misfit (a .kind) (a .y) (a .x .now) (a .results .now) (a .quotients .now) (c .refused .result) (c .refused .ensures) (w .0 .left) (not-true _ (w .1 .taken)))
+    (λ w. results-misfit (a .kind) (a .y) (a .x .now) (a .results .now) (a .quotients .now) (c .number-of .result) (c .number-of .ensures) (w .taken))
+    (λ w. quotients-misfit (a .kind) (a .y) (a .x .now) (a .results .now) (a .quotients .now) (c .number-of .result) (c .number-of .ensures) (w .0 .left) (not-true _ (w .1 .taken)))
     (j .if1 .came)
 
 of-pattern-requires : tie.Need-of-pattern-requires
@@ -33,6 +32,9 @@ of-pattern-requires c κs = search needs
 judge-divisor-requires : tie.Need-judge-divisor-requires
 judge-divisor-requires c κs = search needs
 
+verdict-number-requires : tie.Need-verdict-number-requires
+verdict-number-requires c κs = search needs
+
 -- the lists are as long as the dividends
 fit-results : (e : tie.Else2) → let a = e .before .before .before .before .before .args in length (a .results .now) ≡ length (a .x .now)
 fit-results e = e .before .if1 .left
@@ -40,33 +42,19 @@ fit-results e = e .before .if1 .left
 fit-quotients : (e : tie.Else2) → let a = e .before .before .before .before .before .args in length (a .quotients .now) ≡ length (a .x .now)
 fit-quotients e = eqb-true _ _ (not-false _ (e .if2 .left))
 
--- the verdict's number
-number-is : (j : tie.After-judge-divisor) → verdictNumber (j .judge-divisor .result) ≡ first (dividingList (classOf binary64 (j .before .before .before .before .before .before .before .args .y)))
-number-is j = let o = j .before in j .judge-divisor .ensures (binary64 .smallest) _ (o .of-pattern .ensures)
-
-enum-known-why : tie.Need-enum-known-why
-enum-known-why c = search needs
-
-refused-requires-2 : tie.Need-refused-requires-2
-refused-requires-2 c κs = search needs
+-- the number is that of the divisor
+number-is : (v : tie.After-verdict-number) → v .verdict-number .result ≡ first (dividingList (classOf binary64 (v .before .before .before .before .before .before .before .before .args .y)))
+number-is v = let o = v .before .before in v .verdict-number .ensures ∙ v .before .judge-divisor .ensures (binary64 .smallest) _ (o .of-pattern .ensures)
 
 returns-2 : tie.Need-returns-2
 returns-2 c =
-    let w = c .before .before in
-    let j = w .before .before in
-    let e = j .before .before in
+    let v = c .before in
+    let e = v .before .before .before in
     let a = e .before .before .before .before .before .args in
-    divisor-refused (a .kind) (a .y) (a .x .now) (a .results .now) (a .quotients .now) (fit-results e) (fit-quotients e) (c .refused2 .result) (w .why .given .0 .0) (c .refused2 .ensures)
-    (refused-number (j .judge-divisor .result) (w .why .given .0 .0) _ (w .why .given .1) (number-is j))
-
-enum-told : tie.Need-enum-told
-enum-told c = search needs
+    divisor-refused (a .kind) (a .y) (a .x .now) (a .results .now) (a .quotients .now) (fit-results e) (fit-quotients e) (v .verdict-number .result) (number-is v) (λ z. omega arith)
 
 divisor-of-requires : tie.Need-divisor-of-requires
 divisor-of-requires c κs = search needs
-
-accepts : (t : tie.After-enum-told) → let o = t .before .before .before in first (dividingList (classOf binary64 (o .before .before .before .before .before .before .args .y))) ≡ 0
-accepts t = let j = t .before .before in accepted-number (j .judge-divisor .result) _ (t .enum-told .given .1) (number-is j)
 
 fold-places-requires : tie.Need-fold-places-requires
 fold-places-requires c κs =
@@ -84,29 +72,27 @@ returns-3 : tie.Need-returns-3
 returns-3 c =
     let f = c .before .before .before .before in
     let d = f .before in
-    let t = d .before .before .before in
-    let o = t .before .before .before in
+    let v = d .before .before .before .before in
+    let o = v .before .before in
     let e = o .before in
     let a = e .before .before .before .before .before .args in
-    filled (a .kind) (a .y) (a .x .now) (a .results .now) (a .quotients .now) (fit-results e) (fit-quotients e) _ _ _ _
-    (ap (divisorIn (binary64 .smallest)) (d .divisor-of .ensures) ∙ pattern-divisor-is _ (o .of-pattern .result .operand) (o .of-pattern .ensures) (accepts t))
-    (accepts t)
+    let z : v .verdict-number .result ≡ 0 = omega arith in
+    filled (a .kind) (a .y) (a .x .now) (a .results .now) (a .quotients .now) (fit-results e) (fit-quotients e) (v .verdict-number .result) (number-is v) z _ _ _ _
+    (ap (divisorIn (binary64 .smallest)) (d .divisor-of .ensures) ∙ pattern-divisor-is _ (o .of-pattern .result .operand) (o .of-pattern .ensures) (sym (number-is v) ∙ z))
     (f .fold-places .ensures)
 
 pub fold64-spec : {M : Type 1} → statement M
 fold64-spec =
     tie.close
     (tie.spec
-    refused-requires
+    number-of-requires
     returns
     of-pattern-requires
     judge-divisor-requires
-    enum-known-why
-    refused-requires-2
-    enum-told
+    verdict-number-requires
+    returns-2
     divisor-of-requires
     fold-places-requires
-    returns-2
     same-length
     same-length-2
     returns-3)

@@ -1,8 +1,8 @@
 -- `judge_divisor` meets its contract. Assumes nothing.
 use borrow.Author.Needs.{needs}
 use Rattle.checks.proofs.Judged.{divisor-number}
-use Rattle.checks.proofs.judge_divisor.Statement.{statement}
-use Rattle.checks.proofs.judge_divisor.Tie as tie
+use Rattle.checks.proofs.list.judge_divisor.Statement.{statement}
+use Rattle.checks.proofs.list.judge_divisor.Tie as tie
 
 is-nan-requires : tie.Need-is-nan-requires
 is-nan-requires c κs = search needs

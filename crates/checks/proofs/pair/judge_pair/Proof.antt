@@ -5,8 +5,8 @@ use mathlib.Core.Logic.{⊎-elim}
 use borrow.Author.Needs.{needs}
 use Rattle.checks.specs.Verdict.{unsupportedOperand, nanOperand}
 use Rattle.checks.proofs.Judged.{pair-number}
-use Rattle.checks.proofs.judge_pair.Statement.{statement}
-use Rattle.checks.proofs.judge_pair.Tie as tie
+use Rattle.checks.proofs.pair.judge_pair.Statement.{statement}
+use Rattle.checks.proofs.pair.judge_pair.Tie as tie
 
 is-unsupported-requires : tie.Need-is-unsupported-requires
 is-unsupported-requires c κs = search needs
