@@ -18,8 +18,8 @@ pub fn number_of(why: Refusal) -> u8
     ensures { λ r. ⌜ r ≡ refusalNumber why ⌝ }
 {
     match why {
-        Refusal::Misfit => 9,
-        Refusal::Missized => 6,
+        Refusal::BadLength => 9,
+        Refusal::BadSize => 6,
         Refusal::Unsupported => 2,
         Refusal::Nan => 3,
         Refusal::Infinite => 4,

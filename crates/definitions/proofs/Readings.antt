@@ -6,16 +6,16 @@ use Rattle.definitions.specs.Format.{classOf, patternOf, magnitude, hous
 use Rattle.definitions.specs.Numbers.{first}
 use Rattle.definitions.specs.Division.{finish}
 use Rattle.definitions.specs.Steps.{step, run}
-use Rattle.definitions.specs.Table.{told, readings, longReadings, allTold, allPrinted}
+use Rattle.definitions.specs.Table.{computed, readings, longReadings, allComputed, allExpected}
 
 -- readings 1 to 10
-pub readings-hold : allTold readings ≡ allPrinted readings
-unfolding told readings size gap classOf patternOf magnitude first finish step run
+pub readings-hold : allComputed readings ≡ allExpected readings
+unfolding computed readings size gap classOf patternOf magnitude first finish step run
 readings-hold = refl
 
 -- readings 11 and 12
-pub long-readings-hold : allTold longReadings ≡ allPrinted longReadings
-unfolding told longReadings size gap classOf patternOf magnitude first finish step run
+pub long-readings-hold : allComputed longReadings ≡ allExpected longReadings
+unfolding computed longReadings size gap classOf patternOf magnitude first finish step run
 long-readings-hold = refl
 
 -- [2.9] the house NaNs

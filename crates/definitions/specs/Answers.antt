@@ -20,8 +20,8 @@ use Rattle.definitions.specs.Scale.{ScaleReport, SplitReport}
 
 -- [7.1] the number of each refusal
 abbrev pub refusalNumber : Refusal → ℕ
-refusalNumber why.Misfit = 9
-refusalNumber why.Missized = 6
+refusalNumber why.BadLength = 9
+refusalNumber why.BadSize = 6
 refusalNumber why.Unsupported = 2
 refusalNumber why.Nan = 3
 refusalNumber why.Infinite = 4

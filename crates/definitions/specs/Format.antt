@@ -62,14 +62,14 @@ abbrev pub patterns : Format → ℕ
 patterns f = 2 * signWeight f
 
 -- [2.3] what a sign, an exponent field e and the stored significand s stand for, in an interchange format
-abbrev pub interchangeClass : Format → Bool → ℕ → ℕ → Class
-interchangeClass f n e s =
+abbrev pub hiddenClass : Format → Bool → ℕ → ℕ → Class
+hiddenClass f n e s =
     cond (eqb e (topField f)) (cond (eqb s 0) (infinite n) nan)
     (finite (record { negative = n; count = cond (eqb e 0) s ((leading f + s) * 2 ^ (e - 1)) }))
 
 -- [2.4, 2.5, 2.6] the same with an explicit leading digit J
-abbrev pub extendedClass : Format → Bool → ℕ → ℕ → Class
-extendedClass f n e s =
+abbrev pub explicitClass : Format → Bool → ℕ → ℕ → Class
+explicitClass f n e s =
     let J = leb (leading f) s in
     cond (eqb e 0) (cond J unsupported (finite (record { negative = n; count = s })))
     (cond J
@@ -77,8 +77,8 @@ extendedClass f n e s =
     unsupported)
 
 abbrev pub fieldsClass : Layout → Format → Bool → ℕ → ℕ → Class
-fieldsClass Hidden f n e s = interchangeClass f n e s
-fieldsClass Explicit f n e s = extendedClass f n e s
+fieldsClass Hidden f n e s = hiddenClass f n e s
+fieldsClass Explicit f n e s = explicitClass f n e s
 
 -- what a pattern stands for
 unfoldable pub classOf : Format → ℕ → Class

@@ -15,3 +15,4 @@ pub mod Bytes
 pub mod Block
 pub mod Line
 pub mod Table
+pub mod Exports

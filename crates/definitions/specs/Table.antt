@@ -1,5 +1,5 @@
 -- Worked examples, with the answers that the library's users wrote down before there was any code: ten as one table of what is asked
--- and what is told, and a second table of longer ones. Definitions only.
+-- and what is computed, and a second table of longer ones. Definitions only.
 use Prim.Native.Nat.{ℕ}
 use mathlib.Core.List.{List, [], _∷_}
 use lib.IntN.{ℤ, pos, negsuc}
@@ -22,36 +22,36 @@ pub data Asked : Type 0 where
   scale : ℕ → ℤ → Asked  -- binary32 x by 2 ^ k
 
 -- what is told: a number, a value and quotient bits, with the steps where they are counted; or a scaled value
-pub data Told : Type 0 where
-  value : (number pattern quotient : ℕ) → Told
-  steps : (number pattern quotient taken : ℕ) → Told
-  scaled : (number pattern : ℕ) → Rounding → Told
+pub data Shown : Type 0 where
+  value : (number pattern quotient : ℕ) → Shown
+  steps : (number pattern quotient taken : ℕ) → Shown
+  scaled : (number pattern : ℕ) → Rounding → Shown
 
-abbrev tellRemainder : Remainder → Told
-tellRemainder r = value (r .number) (r .value) (r .quotient)
+abbrev showRemainder : Remainder → Shown
+showRemainder r = value (r .number) (r .value) (r .quotient)
 
-abbrev tellReport : Report ℕ → Told
-tellReport r = steps (r .number) (r .value) (r .quotient) (r .steps)
+abbrev showReport : Report ℕ → Shown
+showReport r = steps (r .number) (r .value) (r .quotient) (r .steps)
 
-abbrev tellScaled : ScaleReport → Told
-tellScaled r = scaled (r .number) (r .value) (r .says)
+abbrev showScaled : ScaleReport → Shown
+showScaled r = scaled (r .number) (r .value) (r .says)
 
-unfoldable pub told : Asked → Told
+unfoldable pub computed : Asked → Shown
 unfolding remainder stepReport runReport answer taken lastValue lastNumber totalQuotient scaleReport
-told (divide κ x y) = tellRemainder (remainder binary32 κ x y)
-told (oneStep κ n x y) = tellReport (stepReport nothing κ n x y)
-told (twoSteps κ n x y) =
+computed (divide κ x y) = showRemainder (remainder binary32 κ x y)
+computed (oneStep κ n x y) = showReport (stepReport nothing κ n x y)
+computed (twoSteps κ n x y) =
     let ts = taken (answer κ y) (step nothing n ∷ step nothing n ∷ []) x in
     value (lastNumber 7 ts) (lastValue x ts) (totalQuotient ts)
-told (wholeRun κ n b x y) = tellReport (runReport nothing κ n b x y)
-told (scale x k) = tellScaled (scaleReport binary32 x k)
+computed (wholeRun κ n b x y) = showReport (runReport nothing κ n b x y)
+computed (scale x k) = showScaled (scaleReport binary32 x k)
 
 pub record Reading : Type 0 where
   pub asked : Asked
-  pub printed : Told
+  pub expected : Shown
 
-abbrev reading : Asked → Told → Reading
-reading a t = record { asked = a; printed = t }
+abbrev reading : Asked → Shown → Reading
+reading a t = record { asked = a; expected = t }
 
 unfoldable pub readings : List Reading
 readings =
@@ -102,10 +102,10 @@ longReadings =
     ∷ []
 
 -- what the definitions tell of each row, and what is printed of it
-abbrev pub allTold : List Reading → List Told
-allTold [] = []
-allTold (r ∷ rs) = told (r .asked) ∷ allTold rs
+abbrev pub allComputed : List Reading → List Shown
+allComputed [] = []
+allComputed (r ∷ rs) = computed (r .asked) ∷ allComputed rs
 
-abbrev pub allPrinted : List Reading → List Told
-allPrinted [] = []
-allPrinted (r ∷ rs) = r .printed ∷ allPrinted rs
+abbrev pub allExpected : List Reading → List Shown
+allExpected [] = []
+allExpected (r ∷ rs) = r .expected ∷ allExpected rs

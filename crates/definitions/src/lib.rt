@@ -29,8 +29,8 @@ pub enum Rounding {
 
 // Why a call is refused.
 pub enum Refusal {
-    Misfit,
-    Missized,
+    BadLength,
+    BadSize,
     Unsupported,
     Nan,
     Infinite,

@@ -10,7 +10,7 @@ use Rattle.definitions.specs.Format.{classOf, binary64}
 use Rattle.definitions.specs.Numbers.{first, accepted, isNan, isZero}
 use Rattle.definitions.specs.Fold.{Folded, foldList}
 use Rattle.definitions.specs.declared.Kind.{Kind}
-use Rattle.interface.specs.Interface.{after}
+use Rattle.definitions.specs.Exports.{after}
 
 -- 9, 3 and 5 are the refusals of a list
 refusals : (misfit nan zero : Bool) → let n = cond {A = ℕ} misfit 9 (cond nan 3 (cond zero 5 0)) in accepted n ≡ eqb n 0

@@ -4,7 +4,7 @@ use interface::kind_of;
 ghost use mathlib.Core.Path.{_≡_};
 ghost use Rattle.definitions.specs.Fold.{foldList};
 ghost use Rattle.definitions.specs.Block.{kindOf};
-ghost use Rattle.interface.specs.Interface.{after};
+ghost use Rattle.definitions.specs.Exports.{after};
 
 #[no_mangle]
 pub extern "C" fn zk_fold64(

@@ -10,7 +10,7 @@ use Rattle.definitions.specs.declared.Pattern.{Pattern}
 use Rattle.definitions.specs.declared.Refusal.{Refusal}
 use Rattle.definitions.specs.declared.RemainderAnswer.{RemainderAnswer}
 use Rattle.definitions.specs.declared.RemainderAnswer.the-variants.{Finished, Refused}
-use Rattle.interface.specs.Interface.{after, significandIn, wordIn}
+use Rattle.definitions.specs.Exports.{after, significandIn, wordIn}
 use Rattle.interface.proofs.Written.{kept, significand-of, word-of}
 use Rattle.laws.proofs.Small.{remainder-small}
 

@@ -10,7 +10,7 @@ ghost use mathlib.Core.Path.{_≡_};
 ghost use Rattle.definitions.specs.Format.{binary16, binary32, binary64, x87, words};
 ghost use Rattle.definitions.specs.Remainder.{remainder};
 ghost use Rattle.definitions.specs.Block.{kindOf};
-ghost use Rattle.interface.specs.Interface.{after, significandIn, wordIn};
+ghost use Rattle.definitions.specs.Exports.{after, significandIn, wordIn};
 
 #[no_mangle]
 pub extern "C" fn zk_rem16(x: u16, y: u16, kind: u32, value: &mut u16, quotient: &mut u32) -> u8

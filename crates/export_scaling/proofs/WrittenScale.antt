@@ -11,7 +11,7 @@ use Rattle.definitions.specs.declared.Refusal.{Refusal}
 use Rattle.definitions.specs.declared.Rounding.{Rounding}
 use Rattle.definitions.specs.declared.ScaleAnswer.{ScaleAnswer}
 use Rattle.definitions.specs.declared.ScaleAnswer.the-variants as scale
-use Rattle.interface.specs.Interface.{after, saysNumber, significandIn, wordIn}
+use Rattle.definitions.specs.Exports.{after, saysNumber, significandIn, wordIn}
 use Rattle.laws.proofs.Small.{scale-small}
 use Rattle.interface.proofs.Written.{kept, significand-of, word-of}
 

@@ -10,7 +10,7 @@ use Rattle.definitions.specs.declared.Pattern.{Pattern}
 use Rattle.definitions.specs.declared.Refusal.{Refusal}
 use Rattle.definitions.specs.declared.SplitAnswer.{SplitAnswer}
 use Rattle.definitions.specs.declared.SplitAnswer.the-variants as split
-use Rattle.interface.specs.Interface.{after, significandIn, wordIn}
+use Rattle.definitions.specs.Exports.{after, significandIn, wordIn}
 use Rattle.laws.proofs.Small.{split-small}
 use Rattle.interface.proofs.Written.{kept, significand-of, word-of}
 

@@ -9,7 +9,7 @@ use scaling::scale::scale80;
 ghost use mathlib.Core.Path.{_≡_};
 ghost use Rattle.definitions.specs.Format.{binary16, binary32, binary64, x87, words};
 ghost use Rattle.definitions.specs.Scale.{scaleReport};
-ghost use Rattle.interface.specs.Interface.{after, saysNumber, significandIn, wordIn};
+ghost use Rattle.definitions.specs.Exports.{after, saysNumber, significandIn, wordIn};
 
 #[no_mangle]
 pub extern "C" fn zk_scale16(x: u16, power: i32, value: &mut u16, says: &mut u8) -> u8

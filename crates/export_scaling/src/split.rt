@@ -8,7 +8,7 @@ use scaling::split::split80;
 ghost use mathlib.Core.Path.{_≡_};
 ghost use Rattle.definitions.specs.Format.{binary16, binary32, binary64, x87, words};
 ghost use Rattle.definitions.specs.Scale.{splitReport};
-ghost use Rattle.interface.specs.Interface.{after, significandIn, wordIn};
+ghost use Rattle.definitions.specs.Exports.{after, significandIn, wordIn};
 
 #[no_mangle]
 pub extern "C" fn zk_split16(x: u16, significand: &mut u16, exponent: &mut i32) -> u8

@@ -9,7 +9,7 @@ ghost use mathlib.Core.Path.{_≡_};
 ghost use Rattle.definitions.specs.Format.{words};
 ghost use Rattle.definitions.specs.Reports.{stepReport, runReport};
 ghost use Rattle.definitions.specs.Block.{kindOf, blockAfter};
-ghost use Rattle.interface.specs.Interface.{lending};
+ghost use Rattle.definitions.specs.Exports.{lending};
 
 // The length of the block, and the numbers of a partial step and of a run with a spent budget.
 const BLOCK_LENGTH: usize = 16;
@@ -32,7 +32,7 @@ pub extern "C" fn zk_step80(
     ensures block { λ _. ⌜ now (block .exit) ≡ blockAfter (now (block .entry)) (stepReport (lending (now (block .entry))) (kindOf kind) size (words xw x) (words yw y)) ⌝ }
 {
     if block.len() != BLOCK_LENGTH {
-        return number_of(Refusal::Misfit);
+        return number_of(Refusal::BadLength);
     }
     write(block, step80(x, xw, y, yw, size, kind_of(kind)), PARTIAL)
 }
@@ -52,7 +52,7 @@ pub extern "C" fn zk_run80(
     ensures block { λ _. ⌜ now (block .exit) ≡ blockAfter (now (block .entry)) (runReport (lending (now (block .entry))) (kindOf kind) size budget (words xw x) (words yw y)) ⌝ }
 {
     if block.len() != BLOCK_LENGTH {
-        return number_of(Refusal::Misfit);
+        return number_of(Refusal::BadLength);
     }
     write(
         block,

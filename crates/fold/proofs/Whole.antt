@@ -12,7 +12,7 @@ use Rattle.definitions.specs.Division.{Divisor, divisorOf}
 use Rattle.definitions.specs.Fold.{Folded, dividingList, badPlaces, foldList}
 use Rattle.definitions.specs.Answers.{refusalNumber}
 use Rattle.definitions.specs.declared.Kind.{Kind}
-use Rattle.definitions.specs.declared.Refusal.the-variants.{Misfit}
+use Rattle.definitions.specs.declared.Refusal.the-variants.{BadLength}
 use Rattle.fold.specs.Places.{Filled}
 use Rattle.fold.proofs.OnePlace.{value-at, byte-at}
 
@@ -33,7 +33,7 @@ module _ (κ : Kind) (y : ℕ) (xs results quotients : List ℕ) where
   unfolding foldList
   refuses n h e = rw (e, h)
 
-  module _ (n : ℕ) (is : n ≡ refusalNumber Misfit) where
+  module _ (n : ℕ) (is : n ≡ refusalNumber BadLength) where
     misfit : whole .number ≡ 9 → untouched n ≡ whole
     misfit e = rw is (refuses 9 refl e)
 

@@ -90,7 +90,7 @@ pub fn fold64(
 {
     if results.len() != x.len() || quotients.len() != x.len() {
         return FoldAnswer {
-            number: number_of(Refusal::Misfit),
+            number: number_of(Refusal::BadLength),
             marked: 0,
         };
     }

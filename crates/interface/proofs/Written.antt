@@ -6,7 +6,7 @@ use Rattle.definitions.specs.Answers.{refusalNumber, joined}
 use Rattle.definitions.specs.declared.Refusal.{Refusal}
 use Rattle.definitions.specs.declared.Pattern.{Pattern}
 use Rattle.laws.proofs.Refusals.{refusal-refuses}
-use Rattle.interface.specs.Interface.{after, significandIn, wordIn}
+use Rattle.definitions.specs.Exports.{after, significandIn, wordIn}
 
 -- a refusal leaves what was lent
 pub kept : {A : Type 0} (w : Refusal) (n : ℕ) (answer lent : A) → n ≡ refusalNumber w → lent ≡ after n answer lent

@@ -5,7 +5,7 @@ use definitions::Kind;
 use definitions::Rounding;
 ghost use mathlib.Core.Path.{_≡_};
 ghost use Rattle.definitions.specs.Block.{kindOf};
-ghost use Rattle.interface.specs.Interface.{saysNumber};
+ghost use Rattle.definitions.specs.Exports.{saysNumber};
 
 // 0 is truncated, any other is nearest.
 pub fn kind_of(kind: u32) -> Kind

@@ -21,7 +21,7 @@ use lib.Ieee.Bits.{ofBits-toBits, ofBits-fits}
 use Rattle.digits.proofs.Tests.{clash, not-zero}
 use Rattle.digits.proofs.Common.{mod-scale}
 use Rattle.definitions.specs.Class.{Value, Class, unsupported, nan, infinite, finite}
-use Rattle.definitions.specs.Format.{Format, Representable, Regular, binary32, binary64, interchangeClass, classOf, patternOf, magnitude}
+use Rattle.definitions.specs.Format.{Format, Representable, Regular, binary32, binary64, hiddenClass, classOf, patternOf, magnitude}
 use Rattle.definitions.specs.declared.Layout.the-variants.{Hidden}
 use Rattle.definitions.specs.declared.Kind.the-variants.{Truncated}
 use Rattle.definitions.specs.Division.{finishBy, finish}
@@ -48,7 +48,7 @@ Stands g nan v = v ≡ Ieee.nan
 Stands g (infinite s) v = v ≡ inf s
 Stands g (finite x) v = HasValue v (x .negative) (x .count) (2 ^ low g)
 
-fields-stand : (g : Ieee.Format) (s : Bool) (e t : ℕ) → Stands g (interchangeClass (ours g) s e t) (ofFields g s e t)
+fields-stand : (g : Ieee.Format) (s : Bool) (e t : ℕ) → Stands g (hiddenClass (ours g) s e t) (ofFields g s e t)
 unfolding ofFields
 fields-stand g s zero t = rw (ne-eqb 0 (ones g) (λ z. omega arith)) (rw mul-one at (odd-sign (prec g) s t 0 (low g)))
 fields-stand g s (suc e) t = go (eqb (suc e) (ones g)) (eqb t 0)

@@ -7,8 +7,8 @@ use Rattle.definitions.specs.declared.Refusal.{Refusal}
 use Rattle.definitions.specs.declared.Refusal.the-variants as why
 
 pub refusal-refuses : (w : Refusal) → accepted (refusalNumber w) ≡ false
-refusal-refuses why.Misfit = refl
-refusal-refuses why.Missized = refl
+refusal-refuses why.BadLength = refl
+refusal-refuses why.BadSize = refl
 refusal-refuses why.Unsupported = refl
 refusal-refuses why.Nan = refl
 refusal-refuses why.Infinite = refl

@@ -31,7 +31,7 @@ fn judge_call(x: Operand, y: Operand, size: u32) -> Verdict
     ensures { λ r. ⌜ ((s : ℤ) (a b : Class) → x ≡ operandOf s a → y ≡ operandOf s b → verdictNumber r ≡ first (calling nothing size ++ dividing a b)) ⌝ }
 {
     if size < 32 || 63 < size {
-        return Verdict::Refused(Refusal::Missized);
+        return Verdict::Refused(Refusal::BadSize);
     }
     judge_pair(x, y)
 }

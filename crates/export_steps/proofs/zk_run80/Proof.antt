@@ -6,7 +6,7 @@ use Rattle.definitions.specs.Reports.{runReport}
 use Rattle.definitions.specs.Answers.{runMeaning}
 use Rattle.definitions.specs.Block.{kindOf}
 use Rattle.chains.proofs.Small.{Small, run-small}
-use Rattle.interface.specs.Interface.{lending}
+use Rattle.definitions.specs.Exports.{lending}
 use Rattle.export_steps.proofs.Written.{misfit, run-fitting, run-misfit}
 use borrow.Author.Needs.{needs}
 use Rattle.export_steps.proofs.zk_run80.Statement.{statement}

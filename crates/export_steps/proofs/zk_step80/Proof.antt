@@ -6,7 +6,7 @@ use Rattle.definitions.specs.Reports.{stepReport}
 use Rattle.definitions.specs.Answers.{stepMeaning}
 use Rattle.definitions.specs.Block.{kindOf}
 use Rattle.chains.proofs.Small.{Small, step-small}
-use Rattle.interface.specs.Interface.{lending}
+use Rattle.definitions.specs.Exports.{lending}
 use Rattle.export_steps.proofs.Written.{misfit, step-fitting, step-misfit}
 use borrow.Author.Needs.{needs}
 use Rattle.export_steps.proofs.zk_step80.Statement.{statement}
