@@ -1,6 +1,6 @@
 #!/bin/sh
 # What the documents name is there, and the crate's version is the header's: every edit in the list of its crate in docs/PROOF.md and no
-# other, every crate in docs/ARCHITECTURE.md, every file that a link or a path below crates/, rust/, tests/, vectors/ or docs/ speaks of,
+# other, every crate in docs/ARCHITECTURE.md and docs/GATE.md, every file that a link or a path below crates/, rust/, tests/, vectors/ or docs/ speaks of,
 # and every sentence of docs/SCOPE.md that a comment or a page points at.
 set -eu
 wrong=0
@@ -21,6 +21,7 @@ done
 
 for crate in $(ls crates); do
     grep -q "\`$crate\`" docs/ARCHITECTURE.md || say "docs/ARCHITECTURE.md does not name the crate $crate"
+    grep -q "^| \`$crate\` |" docs/GATE.md || say "docs/GATE.md has no times of the crate $crate"
 done
 
 for page in README.md docs/*.md rust/zukemoriha/README.md vectors/README.md; do

@@ -69,7 +69,7 @@ abbrev pub divisorIn : ℤ → Divisor → division.Divisor
 divisorIn s Unbounded = division.unbounded
 divisorIn s (By u) = division.by (valueIn s u .count)
 
--- an operand as `formats` unpacks it: a leading one at bit 63, and an exponent that is within every format's range
+-- an operand as `unpack` makes it: a leading one at bit 63, and an exponent that is within every format's range
 pub record Ready (u : Unpacked) : Type 0 where
   pub top : 2 ^ 63 ≤ u .significand
   pub word : u .significand < 2 ^ 64

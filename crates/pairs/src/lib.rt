@@ -1,5 +1,5 @@
 // The remainder of two finite values that are not zero. Everything is done on magnitudes, and the sign is put on at the end.
-// Only crates of this repository call these, with operands as `formats` unpacks them.
+// Only crates of this repository call these, with operands as `unpack` makes them.
 use definitions::Kind;
 use division::Divided;
 use division::divide;

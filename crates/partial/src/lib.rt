@@ -1,5 +1,5 @@
-// A step of a finite value by a finite divisor that is not zero. Only crates of this repository call these, with operands as `formats`
-// unpacks them.
+// A step of a finite value by a finite divisor that is not zero. Only crates of this repository call these, with operands as `unpack`
+// makes them.
 use definitions::Kind;
 use division::divide;
 use operands::Divisor;

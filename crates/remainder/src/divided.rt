@@ -1,5 +1,5 @@
 // The remainder of operands, the same for every format: judge, divide, pack. Only crates of this repository call these, with operands as
-// `formats` unpacks them.
+// `unpack` makes them.
 use checks::Verdict;
 use checks::pair::judge_pair;
 use definitions::Kind;
