@@ -1,2 +1,3 @@
 pub mod Readings
 pub mod Order
+pub mod Refusals

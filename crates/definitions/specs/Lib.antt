@@ -14,5 +14,7 @@ pub mod Fold
 pub mod Bytes
 pub mod Block
 pub mod Line
+pub mod Told
 pub mod Table
+pub mod Samples
 pub mod Exports

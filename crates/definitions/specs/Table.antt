@@ -6,51 +6,57 @@ use lib.IntN.{ℤ, pos, negsuc}
 use Rattle.definitions.specs.Format.{binary32}
 use Rattle.definitions.specs.declared.Kind.{Kind}
 use Rattle.definitions.specs.declared.Kind.the-variants.{Truncated, Nearest}
-use Rattle.definitions.specs.Remainder.{Remainder, remainder}
-use Rattle.definitions.specs.Reports.{Report, nothing, stepReport, runReport}
-use Rattle.definitions.specs.Calls.{step, answer, taken, lastValue, lastNumber, totalQuotient}
+use Rattle.definitions.specs.Reports.{nothing}
+use Rattle.definitions.specs.Calls as calls
+use Rattle.definitions.specs.Calls.{answer, made, answers, lastValue, lastNumber, totalQuotient, totalSteps}
 use Rattle.definitions.specs.declared.Rounding.{Rounding}
 use Rattle.definitions.specs.declared.Rounding.the-variants.{Exact, Up, Down}
-use Rattle.definitions.specs.Scale.{ScaleReport, scaleReport}
+use Rattle.definitions.specs.Told as asked
+use Rattle.definitions.specs.Told.{Asked, Told, told}
 
--- what is asked
-pub data Asked : Type 0 where
-  divide : Kind → ℕ → ℕ → Asked  -- binary32 x by y
-  oneStep : Kind → (size x y : ℕ) → Asked  -- one x87 step
-  twoSteps : Kind → (size x y : ℕ) → Asked  -- two of them, added up
-  wholeRun : Kind → (size budget x y : ℕ) → Asked
-  scale : ℕ → ℤ → Asked  -- binary32 x by 2 ^ k
+-- a question: one call, or two steps that are added up
+pub data Question : Type 0 where
+  call : Asked → Question
+  twoSteps : Kind → (size x y : ℕ) → Question
 
--- what is told: a number, a value and quotient bits, with the steps where they are counted; or a scaled value
-pub data Shown : Type 0 where
-  value : (number pattern quotient : ℕ) → Shown
-  steps : (number pattern quotient taken : ℕ) → Shown
-  scaled : (number pattern : ℕ) → Rounding → Shown
+-- binary32 x by y, one x87 step, a run, and binary32 x by 2 ^ k
+abbrev divide : Kind → ℕ → ℕ → Question
+divide κ x y = call (asked.divide binary32 κ x y)
 
-abbrev showRemainder : Remainder → Shown
-showRemainder r = value (r .number) (r .value) (r .quotient)
+abbrev oneStep : Kind → ℕ → ℕ → ℕ → Question
+oneStep κ n x y = call (asked.step nothing κ n x y)
 
-abbrev showReport : Report ℕ → Shown
-showReport r = steps (r .number) (r .value) (r .quotient) (r .steps)
+abbrev wholeRun : Kind → ℕ → ℕ → ℕ → ℕ → Question
+wholeRun κ n b x y = call (asked.run nothing κ n b x y)
 
-abbrev showScaled : ScaleReport → Shown
-showScaled r = scaled (r .number) (r .value) (r .says)
+abbrev scale : ℕ → ℤ → Question
+scale x k = call (asked.scale binary32 x k)
 
-unfoldable pub computed : Asked → Shown
-unfolding remainder stepReport runReport answer taken lastValue lastNumber totalQuotient scaleReport
-computed (divide κ x y) = showRemainder (remainder binary32 κ x y)
-computed (oneStep κ n x y) = showReport (stepReport nothing κ n x y)
+-- what is told: a number, a value and quotient bits, with the steps where they are counted; a scaled value; or a significand and exponent
+abbrev pub steps : ℕ → ℕ → ℕ → ℕ → Told
+steps n p q s = record { number = n; value = p; quotient = q; steps = s; exponent = pos 0; says = Exact }
+
+abbrev pub value : ℕ → ℕ → ℕ → Told
+value n p q = steps n p q 0
+
+abbrev pub scaled : ℕ → ℕ → Rounding → Told
+scaled n p r = record { number = n; value = p; quotient = 0; steps = 0; exponent = pos 0; says = r }
+
+abbrev pub parts : ℕ → ℕ → ℤ → Told
+parts n p e = record { number = n; value = p; quotient = 0; steps = 0; exponent = e; says = Exact }
+
+unfoldable pub computed : Question → Told
+unfolding told answer made answers lastValue lastNumber totalQuotient totalSteps
+computed (call a) = told a
 computed (twoSteps κ n x y) =
-    let ts = taken (answer κ y) (step nothing n ∷ step nothing n ∷ []) x in
-    value (lastNumber 7 ts) (lastValue x ts) (totalQuotient ts)
-computed (wholeRun κ n b x y) = showReport (runReport nothing κ n b x y)
-computed (scale x k) = showScaled (scaleReport binary32 x k)
+    let ts = made (answer κ y) (calls.step nothing n ∷ calls.step nothing n ∷ []) x in
+    steps (lastNumber 7 (answers ts)) (lastValue x (answers ts)) (totalQuotient ts) (totalSteps ts)
 
 pub record Reading : Type 0 where
-  pub asked : Asked
-  pub expected : Shown
+  pub asked : Question
+  pub expected : Told
 
-abbrev reading : Asked → Shown → Reading
+abbrev pub reading : Question → Told → Reading
 reading a t = record { asked = a; expected = t }
 
 unfoldable pub readings : List Reading
@@ -77,8 +83,8 @@ readings =
     ∷ reading (oneStep Nearest 63 0x40408000000000000000 0x4000C000000000000000) (steps 1 0x40008000000000000000 2 1)
     ∷ reading (oneStep Truncated 63 0x40008000000000000000 0x4000C000000000000000) (steps 0 0x40008000000000000000 0 1)
     ∷ reading (oneStep Nearest 63 0x40008000000000000000 0x4000C000000000000000) (steps 0 0xBFFF8000000000000000 1 1)
-    ∷ reading (twoSteps Truncated 63 0x40408000000000000000 0x4000C000000000000000) (value 0 0x40008000000000000000 2)
-    ∷ reading (twoSteps Nearest 63 0x40408000000000000000 0x4000C000000000000000) (value 0 0xBFFF8000000000000000 3)
+    ∷ reading (twoSteps Truncated 63 0x40408000000000000000 0x4000C000000000000000) (steps 0 0x40008000000000000000 2 2)
+    ∷ reading (twoSteps Nearest 63 0x40408000000000000000 0x4000C000000000000000) (steps 0 0xBFFF8000000000000000 3 2)
     -- 8: the same, size 32
     ∷ reading (oneStep Truncated 32 0x40408000000000000000 0x4000C000000000000000) (steps 1 0x40208000000000000000 0 1)
     ∷ reading (oneStep Truncated 32 0x40208000000000000000 0x4000C000000000000000) (steps 0 0x40008000000000000000 2 1)
@@ -102,10 +108,10 @@ longReadings =
     ∷ []
 
 -- what the definitions tell of each row, and what is printed of it
-abbrev pub allComputed : List Reading → List Shown
+abbrev pub allComputed : List Reading → List Told
 allComputed [] = []
 allComputed (r ∷ rs) = computed (r .asked) ∷ allComputed rs
 
-abbrev pub allExpected : List Reading → List Shown
+abbrev pub allExpected : List Reading → List Told
 allExpected [] = []
 allExpected (r ∷ rs) = r .expected ∷ allExpected rs
