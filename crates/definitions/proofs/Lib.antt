@@ -1,3 +1,4 @@
 pub mod Readings
 pub mod Order
 pub mod Refusals
+pub mod Samples

@@ -7,8 +7,7 @@ use Rattle.definitions.specs.Numbers.{first}
 use Rattle.definitions.specs.Division.{finish}
 use Rattle.definitions.specs.Steps.{step, run}
 use Rattle.definitions.specs.Table.{computed, readings, longReadings, allComputed, allExpected}
-use Rattle.definitions.specs.Samples.{refusals, answered, text}
-use mathlib.Core.List.{List, [], _∷_}
+use Rattle.definitions.specs.Samples.{refusals, answered}
 
 -- readings 1 to 10
 pub readings-hold : allComputed readings ≡ allExpected readings
@@ -28,9 +27,6 @@ refusals-hold = refl
 pub answered-hold : allComputed answered ≡ allExpected answered
 unfolding computed answered size gap classOf patternOf magnitude first finish step run
 answered-hold = refl
-
-pub texty : text "ab 0" ≡ 97 ∷ 98 ∷ 32 ∷ 48 ∷ []
-texty = refl
 
 -- [2.9] the house NaNs
 pub house-nans : (houseNan binary16 ≡ 0x7E00) × (houseNan binary32 ≡ 0x7FC00000) × (houseNan binary64 ≡ 0x7FF8000000000000) × (houseNan x87 ≡ 0x7FFFC000000000000000)

@@ -1,13 +1,13 @@
 -- [7.5] what every refusal tells, and the number of every class: said once, over all operations and formats. Assumes nothing.
 use mathlib.Core.Path.{_≡_, refl}
-use mathlib.Core.Bool.{Bool, true, false, not, cond}
+use mathlib.Core.Bool.{Bool, true, false, not, cond, _&&_, _||_}
 use mathlib.Core.List.{List, [], _∷_, map}
 use Prim.Native.Nat.{ℕ, suc}
 use native.Mathlib.Omega.{arith}
 use lib.Dec.{eqb}
 use Rattle.digits.proofs.Tests.{not-zero}
 use Rattle.definitions.specs.Class.{Class, unsupported, nan, infinite, finite}
-use Rattle.definitions.specs.Numbers.{first, accepted, dividing}
+use Rattle.definitions.specs.Numbers.{first, accepted, dividing, isUnsupported, isNan, isInfinite, isZero}
 use Rattle.definitions.specs.Remainder.{remainder, remainderOf}
 use Rattle.definitions.specs.Reports.{Lent, fitting, sized, stepping, running, stepReport, runReport}
 use Rattle.definitions.specs.Scale.{scaleReport, scaleOf, splitReport, splitOf, scaling, splitting}
@@ -59,3 +59,37 @@ splitting-numbers s n = rw (some n)
 pub list-numbers : (s : Bool) (n : ℕ) → map (λ y. first (dividingList y)) (classes s n) ≡ 0 ∷ 3 ∷ 0 ∷ 0 ∷ 5 ∷ []
 unfolding first
 list-numbers s n = rw (some n)
+
+-- [7.3] a list looks at its lengths first
+pub folding-numbers : (xs results quotients : ℕ) (y : Class)
+    → first (folding xs results quotients y) ≡ cond (eqb results xs && eqb quotients xs) (first (dividingList y)) 9
+unfolding first
+folding-numbers xs results quotients y = go (eqb results xs && eqb quotients xs)
+  where
+    go : (t : Bool) → cond (not t) 9 (first (dividingList y)) ≡ cond t (first (dividingList y)) 9
+    go true = refl
+    go false = refl
+
+-- [7.3] a step and a run look at the block, then at the size, refuse what the remainder refuses, and then say how they ended
+abbrev called : Lent → ℕ → ℕ → ℕ → ℕ
+called l n refused ended = cond (fitting l) (cond (sized n) (cond (eqb refused 0) ended refused) 6) 9
+
+pub call-numbers : (l : Lent) (n : ℕ) (x y : Class) (unfinished : Bool)
+    → (first (stepping l n x y unfinished) ≡ called l n (first (dividing x y)) (cond unfinished 1 0))
+    × (first (running l n x y unfinished) ≡ called l n (first (dividing x y)) (cond unfinished 7 0))
+unfolding first
+call-numbers l n x y t = (go 1, go 7)
+  where
+    by : (m i u q d z : Bool) (k : ℕ) → cond (not m) 9 (cond (not i) 6 (cond u 2 (cond q 3 (cond d 4 (cond z 5 k)))))
+        ≡ cond m (cond i (cond (eqb (cond u 2 (cond q 3 (cond d 4 (cond z 5 0)))) 0) k (cond u 2 (cond q 3 (cond d 4 (cond z 5 0))))) 6) 9
+    by false i u q d z k = refl
+    by true false u q d z k = refl
+    by true true true q d z k = refl
+    by true true false true d z k = refl
+    by true true false false true z k = refl
+    by true true false false false true k = refl
+    by true true false false false false k = refl
+
+    go : (u : ℕ) → _≡_ {A = ℕ} (cond (not (fitting l)) 9 (cond (not (sized n)) 6 (cond (isUnsupported x || isUnsupported y) 2 (cond (isNan x || isNan y) 3 (cond (isInfinite x) 4 (cond (isZero y) 5 (cond t u 0)))))))
+        (called l n (first (dividing x y)) (cond t u 0))
+    go u = by (fitting l) (sized n) (isUnsupported x || isUnsupported y) (isNan x || isNan y) (isInfinite x) (isZero y) (cond t u 0)

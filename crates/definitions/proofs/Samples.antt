@@ -1,0 +1,139 @@
+-- Lists, blocks and lines, computed from the definitions. Assumes nothing.
+use mathlib.Core.Path.{_≡_, refl}
+use mathlib.Core.Bool.{Bool, true, false, cond}
+use mathlib.Core.List.{List, [], _∷_, map}
+use Prim.Native.Nat.{ℕ, zero, suc}
+use lib.Ieee.{size}
+use Rattle.definitions.specs.Class.{gap}
+use Rattle.definitions.specs.Format.{classOf, patternOf, magnitude}
+use Rattle.definitions.specs.Numbers.{first}
+use Rattle.definitions.specs.Division.{finish}
+use Rattle.definitions.specs.Remainder.{remainder}
+use Rattle.definitions.specs.declared.Kind.the-variants.{Truncated, Nearest}
+use Rattle.definitions.specs.declared.Rounding.the-variants.{Exact, Up, Down}
+use Rattle.definitions.specs.Steps.{step, run}
+use Rattle.definitions.specs.Reports.{nothing, stepReport, runReport}
+use Rattle.definitions.specs.Fold.{Folded, foldList}
+use Rattle.definitions.specs.Block.{kindOf, blockAfter}
+use Rattle.definitions.specs.Line.{isHex, digitOf, lineFor, outputFor}
+use Rattle.definitions.specs.Exports.{significandIn, wordIn, saysNumber}
+use Rattle.definitions.specs.Samples.{text}
+
+-- ---- [8.1 to 8.4] 5.5, a NaN, -6, minus infinity and 7 by 2, into lists of sevens
+abbrev readings : List ℕ
+readings = 0x4016000000000000 ∷ 0xFFF0000000000001 ∷ 0xC018000000000000 ∷ 0xFFF0000000000000 ∷ 0x401C000000000000 ∷ []
+
+abbrev sevens : List ℕ
+sevens = 7 ∷ 7 ∷ 7 ∷ 7 ∷ 7 ∷ []
+
+abbrev untouched : ℕ → Folded
+untouched n = record { number = n; results = sevens; quotients = sevens; marked = 0 }
+
+pub fold-truncated : foldList Truncated 0x4000000000000000 readings sevens sevens
+    ≡ record {
+      number = 0;
+      results = 0x3FF8000000000000 ∷ 0x7FF8000000000000 ∷ 0x8000000000000000 ∷ 0x7FF8000000000000 ∷ 0x3FF0000000000000 ∷ [];
+      quotients = 2 ∷ 255 ∷ 3 ∷ 255 ∷ 3 ∷ [];
+      marked = 2;
+    }
+unfolding foldList remainder size gap classOf patternOf magnitude first finish
+fold-truncated = refl
+
+pub fold-nearest : foldList Nearest 0x4000000000000000 readings sevens sevens
+    ≡ record {
+      number = 0;
+      results = 0xBFE0000000000000 ∷ 0x7FF8000000000000 ∷ 0x8000000000000000 ∷ 0x7FF8000000000000 ∷ 0xBFF0000000000000 ∷ [];
+      quotients = 3 ∷ 255 ∷ 3 ∷ 255 ∷ 4 ∷ [];
+      marked = 2;
+    }
+unfolding foldList remainder size gap classOf patternOf magnitude first finish
+fold-nearest = refl
+
+-- by infinity each finite one is itself
+pub fold-infinite : foldList Nearest 0xFFF0000000000000 (0x4016000000000000 ∷ 0x7FF0000000000000 ∷ []) (7 ∷ 7 ∷ []) (7 ∷ 7 ∷ [])
+    ≡ record { number = 0; results = 0x4016000000000000 ∷ 0x7FF8000000000000 ∷ []; quotients = 0 ∷ 255 ∷ []; marked = 1 }
+unfolding foldList remainder size gap classOf patternOf magnitude first finish
+fold-infinite = refl
+
+-- a NaN and a zero divisor, and lists that are one place short; of empty lists the same
+pub fold-refused : (foldList Truncated 0x7FF0000000000001 readings sevens sevens ≡ untouched 3)
+    × (foldList Nearest 0x8000000000000000 readings sevens sevens ≡ untouched 5)
+    × (foldList Truncated 0x7FF8000000000000 readings sevens (7 ∷ 7 ∷ 7 ∷ 7 ∷ []) ≡ record { number = 9; results = sevens; quotients = 7 ∷ 7 ∷ 7 ∷ 7 ∷ []; marked = 0 })
+    × (foldList Nearest 0 readings (7 ∷ 7 ∷ 7 ∷ 7 ∷ []) sevens ≡ record { number = 9; results = 7 ∷ 7 ∷ 7 ∷ 7 ∷ []; quotients = sevens; marked = 0 })
+    × (foldList Truncated 0 [] [] [] ≡ record { number = 5; results = []; quotients = []; marked = 0 })
+    × (foldList Truncated 0x3FF0000000000000 [] [] [] ≡ record { number = 0; results = []; quotients = []; marked = 0 })
+unfolding foldList remainder size gap classOf patternOf magnitude first finish
+fold-refused = (refl, refl, refl, refl, refl, refl)
+
+-- ---- [9.4, 9.6] the block of reading 7, of a step by infinity, and of a run of 1,025 steps that is spent; and a lent block that is refused
+abbrev zeros : List ℕ
+zeros = 0 ∷ 0 ∷ 0 ∷ 0 ∷ 0 ∷ 0 ∷ 0 ∷ 0 ∷ 0 ∷ 0 ∷ 0 ∷ 0 ∷ 0 ∷ 0 ∷ 0 ∷ 0 ∷ []
+
+pub block-partial : blockAfter zeros (stepReport nothing Truncated 63 0x40408000000000000000 0x4000C000000000000000)
+    ≡ 0 ∷ 0 ∷ 0 ∷ 0 ∷ 0 ∷ 0 ∷ 0 ∷ 0x80 ∷ 0x00 ∷ 0x40 ∷ 1 ∷ 2 ∷ 1 ∷ 0 ∷ 0 ∷ 0 ∷ []
+unfolding blockAfter stepReport size gap classOf patternOf magnitude first finish step
+block-partial = refl
+
+pub block-finished : blockAfter zeros (stepReport nothing Truncated 63 0xC0DE8123456789ABCDEF 0x7FFF8000000000000000)
+    ≡ 0xEF ∷ 0xCD ∷ 0xAB ∷ 0x89 ∷ 0x67 ∷ 0x45 ∷ 0x23 ∷ 0x81 ∷ 0xDE ∷ 0xC0 ∷ 0 ∷ 0 ∷ 1 ∷ 0 ∷ 0 ∷ 0 ∷ []
+unfolding blockAfter stepReport size gap classOf patternOf magnitude first finish step
+block-finished = refl
+
+pub block-steps : blockAfter zeros (record { number = 7; value = 0; quotient = 5; steps = 0x01020304 })
+    ≡ 0 ∷ 0 ∷ 0 ∷ 0 ∷ 0 ∷ 0 ∷ 0 ∷ 0 ∷ 0 ∷ 0 ∷ 7 ∷ 5 ∷ 4 ∷ 3 ∷ 2 ∷ 1 ∷ []
+unfolding blockAfter
+block-steps = refl
+
+pub block-refused : blockAfter zeros (stepReport nothing Truncated 31 0x40408000000000000000 0x4000C000000000000000) ≡ zeros
+unfolding blockAfter stepReport size gap classOf patternOf magnitude first finish step
+block-refused = refl
+
+-- ---- [9.2, 9.5, 6.4] what crosses to C
+pub crossing : (significandIn 0xC0DE8123456789ABCDEF ≡ 0x8123456789ABCDEF) × (wordIn 0xC0DE8123456789ABCDEF ≡ 0xC0DE)
+    × (map kindOf (0 ∷ 1 ∷ 2 ∷ 4294967295 ∷ []) ≡ Truncated ∷ Nearest ∷ Nearest ∷ Nearest ∷ [])
+    × (map saysNumber (Exact ∷ Up ∷ Down ∷ []) ≡ 0 ∷ 1 ∷ 2 ∷ [])
+crossing = (refl, refl, refl, refl)
+
+-- ---- [10.1] the bytes that are hex digits, among all, and what they stand for
+abbrev hexBytes : ℕ → ℕ → List ℕ
+hexBytes i zero = []
+hexBytes i (suc k) = cond (isHex i) (i ∷ hexBytes (suc i) k) (hexBytes (suc i) k)
+
+pub hex-bytes : (hexBytes 0 256 ≡ text "0123456789ABCDEFabcdef")
+    × (map digitOf (hexBytes 0 256) ≡ 0 ∷ 1 ∷ 2 ∷ 3 ∷ 4 ∷ 5 ∷ 6 ∷ 7 ∷ 8 ∷ 9 ∷ 10 ∷ 11 ∷ 12 ∷ 13 ∷ 14 ∷ 15 ∷ 10 ∷ 11 ∷ 12 ∷ 13 ∷ 14 ∷ 15 ∷ [])
+hex-bytes = (refl, refl)
+
+-- ---- [10.1 to 10.5] the users' sample; either case, every number, and a last line without its newline; empty inputs
+pub users-lines : outputFor (text "4016000000000000 4000000000000000\n3FF0000000000000 0000000000000000\nhello\n")
+    ≡ text "3FF8000000000000 2 0\n7FF8000000000000 0 5\nbad line\n"
+unfolding outputFor lineFor remainder size gap classOf patternOf magnitude first finish
+users-lines = refl
+
+pub more-lines : outputFor (text "c08fffffFFFFFFFF 3fe0000000000001\n\n7FF0000000000001 0000000000000000\nfff0000000000000 7FF0000000000000")
+    ≡ text "BFDFFFFFFFFFE802 7 0\nbad line\n7FF8000000000000 0 3\n7FF8000000000000 0 4\n"
+unfolding outputFor lineFor remainder size gap classOf patternOf magnitude first finish
+more-lines = refl
+
+abbrev bad : List ℕ
+bad = text "bad line"
+
+-- a digit more or less, another letter, another space, something behind
+pub bad-lines : map lineFor
+    (text "4016000000000000 400000000000000"
+    ∷ text "4016000000000000 40000000000000000"
+    ∷ text "401600000000000  4000000000000000"
+    ∷ text "401600000000000g 4000000000000000"
+    ∷ text "4016000000000000 400000000000000G"
+    ∷ text "4016000000000000\t4000000000000000"
+    ∷ text "40160000000000004000000000000000"
+    ∷ text "40160000000000000400000000000000"
+    ∷ text " 4016000000000000 4000000000000000"
+    ∷ text "4016000000000000 4000000000000000 "
+    ∷ [])
+    ≡ bad ∷ bad ∷ bad ∷ bad ∷ bad ∷ bad ∷ bad ∷ bad ∷ bad ∷ bad ∷ []
+unfolding lineFor remainder size gap classOf patternOf magnitude first finish
+bad-lines = refl
+
+pub no-lines : (outputFor [] ≡ []) × (outputFor (text "\n") ≡ text "bad line\n")
+unfolding outputFor lineFor
+no-lines = (refl, refl)
