@@ -5,7 +5,7 @@ use mathlib.Core.List.{List, [], _∷_, map}
 use Prim.Native.Nat.{ℕ, zero, suc}
 use lib.Ieee.{size}
 use Rattle.definitions.specs.Class.{gap}
-use Rattle.definitions.specs.Format.{classOf, patternOf, magnitude}
+use Rattle.definitions.specs.Format.{words, classOf, patternOf, magnitude}
 use Rattle.definitions.specs.Numbers.{first}
 use Rattle.definitions.specs.Division.{finish}
 use Rattle.definitions.specs.Remainder.{remainder}
@@ -16,7 +16,7 @@ use Rattle.definitions.specs.Reports.{nothing, stepReport, runReport}
 use Rattle.definitions.specs.Fold.{Folded, foldList}
 use Rattle.definitions.specs.Block.{kindOf, blockAfter}
 use Rattle.definitions.specs.Line.{isHex, digitOf, lineFor, outputFor}
-use Rattle.definitions.specs.Exports.{significandIn, wordIn, saysNumber}
+use Rattle.definitions.specs.Exports.{after, significandIn, wordIn, saysNumber}
 use Rattle.definitions.specs.Samples.{text}
 
 -- ---- [8.1 to 8.4] 5.5, a NaN, -6, minus infinity and 7 by 2, into lists of sevens
@@ -65,7 +65,7 @@ pub fold-refused : (foldList Truncated 0x7FF0000000000001 readings sevens sevens
 unfolding foldList remainder size gap classOf patternOf magnitude first finish
 fold-refused = (refl, refl, refl, refl, refl, refl)
 
--- ---- [9.4, 9.6] the block of reading 7, of a step by infinity, and of a run of 1,025 steps that is spent; and a lent block that is refused
+-- ---- [9.4, 9.6] the block of reading 7, of a step by infinity, and of a report with four bytes of steps; a refusal leaves what was lent
 abbrev zeros : List ℕ
 zeros = 0 ∷ 0 ∷ 0 ∷ 0 ∷ 0 ∷ 0 ∷ 0 ∷ 0 ∷ 0 ∷ 0 ∷ 0 ∷ 0 ∷ 0 ∷ 0 ∷ 0 ∷ 0 ∷ []
 
@@ -74,8 +74,8 @@ pub block-partial : blockAfter zeros (stepReport nothing Truncated 63 0x40408000
 unfolding blockAfter stepReport size gap classOf patternOf magnitude first finish step
 block-partial = refl
 
-pub block-finished : blockAfter zeros (stepReport nothing Truncated 63 0xC0DE8123456789ABCDEF 0x7FFF8000000000000000)
-    ≡ 0xEF ∷ 0xCD ∷ 0xAB ∷ 0x89 ∷ 0x67 ∷ 0x45 ∷ 0x23 ∷ 0x81 ∷ 0xDE ∷ 0xC0 ∷ 0 ∷ 0 ∷ 1 ∷ 0 ∷ 0 ∷ 0 ∷ []
+pub block-finished : blockAfter zeros (stepReport nothing Truncated 63 0xC0DF8123456789ABCDEF 0x7FFF8000000000000000)
+    ≡ 0xEF ∷ 0xCD ∷ 0xAB ∷ 0x89 ∷ 0x67 ∷ 0x45 ∷ 0x23 ∷ 0x81 ∷ 0xDF ∷ 0xC0 ∷ 0 ∷ 0 ∷ 1 ∷ 0 ∷ 0 ∷ 0 ∷ []
 unfolding blockAfter stepReport size gap classOf patternOf magnitude first finish step
 block-finished = refl
 
@@ -88,11 +88,13 @@ pub block-refused : blockAfter zeros (stepReport nothing Truncated 31 0x40408000
 unfolding blockAfter stepReport size gap classOf patternOf magnitude first finish step
 block-refused = refl
 
--- ---- [9.2, 9.5, 6.4] what crosses to C
-pub crossing : (significandIn 0xC0DE8123456789ABCDEF ≡ 0x8123456789ABCDEF) × (wordIn 0xC0DE8123456789ABCDEF ≡ 0xC0DE)
+-- ---- [7.2, 7.6, 9.2, 9.5, 6.4] what crosses to C: two words, kinds, what scaling says, and by its number whether an answer is written
+pub crossing : (words 0xC0DF 0x8123456789ABCDEF ≡ 0xC0DF8123456789ABCDEF)
+    × (significandIn 0xC0DF8123456789ABCDEF ≡ 0x8123456789ABCDEF) × (wordIn 0xC0DF8123456789ABCDEF ≡ 0xC0DF)
     × (map kindOf (0 ∷ 1 ∷ 2 ∷ 4294967295 ∷ []) ≡ Truncated ∷ Nearest ∷ Nearest ∷ Nearest ∷ [])
     × (map saysNumber (Exact ∷ Up ∷ Down ∷ []) ≡ 0 ∷ 1 ∷ 2 ∷ [])
-crossing = (refl, refl, refl, refl)
+    × (map {B = ℕ} (λ n. after n 1 0) (0 ∷ 1 ∷ 2 ∷ 3 ∷ 4 ∷ 5 ∷ 6 ∷ 7 ∷ 8 ∷ 9 ∷ []) ≡ 1 ∷ 1 ∷ 0 ∷ 0 ∷ 0 ∷ 0 ∷ 0 ∷ 1 ∷ 0 ∷ 0 ∷ [])
+crossing = (refl, refl, refl, refl, refl, refl)
 
 -- ---- [10.1] the bytes that are hex digits, among all, and what they stand for
 abbrev hexBytes : ℕ → ℕ → List ℕ
