@@ -14,3 +14,4 @@ pub mod Splitting
 pub mod Small
 pub mod Refusals
 pub mod Bytes
+pub mod Block
