@@ -15,3 +15,4 @@ pub mod Small
 pub mod Refusals
 pub mod Bytes
 pub mod Block
+pub mod Fold
