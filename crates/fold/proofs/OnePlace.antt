@@ -7,32 +7,17 @@ use native.Mathlib.Omega.{arith}
 use borrow.Author.Tests.{ne-eqb}
 use lib.Dec.{eqb, lit<}
 use Rattle.digits.proofs.Tests.{clash}
-use Rattle.definitions.specs.Class.{Value, Class, unsupported, nan, infinite, finite}
-use Rattle.definitions.specs.Format.{Format, binary64, classOf, fieldsClass, topField}
+use Rattle.definitions.specs.Class.{Class, unsupported, nan, infinite, finite}
+use Rattle.definitions.specs.Format.{binary64, classOf}
 use Rattle.definitions.specs.Numbers.{first, accepted, dividing, isUnsupported, isNan, isInfinite}
 use Rattle.definitions.specs.Division.{Divisor, dividendOf, divisorOf}
 use Rattle.definitions.specs.Remainder.{remainderOf, remainder, quotientBits, quotientModulus}
 use Rattle.definitions.specs.Fold.{dividingList, bad, resultAt, byteAt}
 use Rattle.definitions.specs.declared.Kind.{Kind}
-use Rattle.definitions.specs.declared.Layout.{Layout}
-use Rattle.definitions.specs.declared.Layout.the-variants.{Hidden, Explicit}
+use Rattle.laws.proofs.Fold.{supported}
 use Rattle.checks.proofs.Judged.{AcceptedDivisor, accepted-divisor}
 use Rattle.fold.specs.Places.{placeBy}
 use Rattle.fold.specs.declared.Place.{Place}
-
--- an interchange format has no unsupported pattern
-never-unsupported : (l : Layout) → l ≡ Hidden → (f : Format) (n : Bool) (e s : ℕ) → isUnsupported (fieldsClass l f n e s) ≡ false
-never-unsupported Hidden h f n e s = go (eqb e (topField f)) (eqb s 0) _
-  where
-    go : (a b : Bool) (v : Value) → isUnsupported (cond a (cond b (infinite n) nan) (finite v)) ≡ false
-    go true true v = refl
-    go true false v = refl
-    go false b v = refl
-never-unsupported Explicit h f n e s = clash (cc)
-
-supported : (f : Format) (b : ℕ) → f .layout ≡ Hidden → isUnsupported (classOf f b) ≡ false
-unfolding classOf
-supported f b h = never-unsupported (f .layout) h f _ _ _
 
 -- a dividend that is neither NaN nor infinite is a value
 finite-class : (x : Class) → isUnsupported x ≡ false → isNan x || isInfinite x ≡ false → x ≡ finite (dividendOf x)
@@ -42,7 +27,7 @@ finite-class (infinite n) u g = clash (cc)
 finite-class (finite v) u g = refl
 
 pub good-finite : (x : ℕ) → bad x ≡ false → classOf binary64 x ≡ finite (dividendOf (classOf binary64 x))
-good-finite x = finite-class (classOf binary64 x) (supported binary64 x refl)
+good-finite x = finite-class (classOf binary64 x) (supported x)
 
 -- no quotient bits are the mark
 quotient-small : (q : ℕ) → quotientBits q < quotientModulus
@@ -66,7 +51,7 @@ accepts (finite v) y ux uy d = rw (uy, d .not-nan, d .not-zero)
 
 module _ (κ : Kind) (y x : ℕ) (d : first (dividingList (classOf binary64 y)) ≡ 0) where
   accepts-good : accepted (first (dividing (classOf binary64 x) (classOf binary64 y))) ≡ not (bad x)
-  accepts-good = accepts (classOf binary64 x) (classOf binary64 y) (supported binary64 x refl) (supported binary64 y refl) (accepted-divisor (classOf binary64 y) d)
+  accepts-good = accepts (classOf binary64 x) (classOf binary64 y) (supported x) (supported y) (accepted-divisor (classOf binary64 y) d)
 
   pub value-at : placeBy κ (divisorOf (classOf binary64 y)) x .value ≡ resultAt κ y x
   unfolding resultAt remainder remainderOf

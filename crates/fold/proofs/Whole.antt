@@ -1,6 +1,6 @@
 -- The whole list: its number, and what is left of the lent lists. Assumes nothing.
 use mathlib.Core.Path.{_≡_, refl, sym, _∙_}
-use mathlib.Core.Bool.{false, not, cond, _&&_}
+use mathlib.Core.Bool.{false}
 use mathlib.Core.List.{List, map}
 use Prim.Native.Nat.{ℕ}
 use borrow.Author.Tests.{eq-eqb, ne-eqb}
@@ -13,16 +13,13 @@ use Rattle.definitions.specs.Fold.{Folded, dividingList, badPlaces, foldList}
 use Rattle.definitions.specs.Answers.{refusalNumber}
 use Rattle.definitions.specs.declared.Kind.{Kind}
 use Rattle.definitions.specs.declared.Refusal.the-variants.{BadLength}
+use Rattle.laws.proofs.Fold.{fold-unequal, fold-divisor}
 use Rattle.fold.specs.Places.{Filled}
 use Rattle.fold.proofs.OnePlace.{value-at, byte-at}
 
 module _ (κ : Kind) (y : ℕ) (xs results quotients : List ℕ) where
   abbrev whole : Folded
   whole = foldList κ y xs results quotients
-
-  number-is : whole .number ≡ cond (not (eqb (length results) (length xs) && eqb (length quotients) (length xs))) 9 (first (dividingList (classOf binary64 y)))
-  unfolding foldList first
-  number-is = refl
 
   -- a number, with both lists left and nothing counted
   abbrev untouched : ℕ → Folded
@@ -38,14 +35,14 @@ module _ (κ : Kind) (y : ℕ) (xs results quotients : List ℕ) where
     misfit e = rw is (refuses 9 refl e)
 
     pub results-misfit : (length results ≡ length xs → ⊥) → untouched n ≡ whole
-    results-misfit h = misfit (number-is ∙ rw (ne-eqb _ _ h))
+    results-misfit h = misfit (fold-unequal κ y xs results quotients (rw (ne-eqb _ _ h)))
 
     pub quotients-misfit : length results ≡ length xs → eqb (length quotients) (length xs) ≡ false → untouched n ≡ whole
-    quotients-misfit e h = misfit (number-is ∙ rw (eq-eqb _ _ e, h))
+    quotients-misfit e h = misfit (fold-unequal κ y xs results quotients (rw (eq-eqb _ _ e, h)))
 
   module _ (er : length results ≡ length xs) (eq : length quotients ≡ length xs) (n : ℕ) (is : n ≡ first (dividingList (classOf binary64 y))) where
     fits : whole .number ≡ n
-    fits = number-is ∙ rw (eq-eqb _ _ er, eq-eqb _ _ eq, is)
+    fits = fold-divisor κ y xs results quotients er eq ∙ sym is
 
     pub divisor-refused : (n ≡ 0 → ⊥) → untouched n ≡ whole
     divisor-refused h = refuses n (ne-eqb n 0 h) fits
