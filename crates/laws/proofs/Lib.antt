@@ -16,3 +16,4 @@ pub mod Refusals
 pub mod Bytes
 pub mod Block
 pub mod Fold
+pub mod Line
