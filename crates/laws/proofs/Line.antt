@@ -1,6 +1,6 @@
 -- The line program in other words than its definitions: an input line by line, which lines have an answer and of which operands,
 -- and an answer read back. Assumes nothing.
-use mathlib.Core.Path.{_≡_, refl, sym, ap, _∙_}
+use mathlib.Core.Path.{_≡_, refl, sym, ap, _∙_, subst}
 use mathlib.Core.Bool.{Bool, true, false, cond, not, _&&_}
 use mathlib.Core.Logic.{_⊎_, inl, inr}
 use mathlib.Core.List.{List, [], _∷_, _++_, append-nil, append-assoc}
@@ -19,7 +19,7 @@ use Rattle.definitions.specs.Remainder.{Remainder, remainder}
 use Rattle.definitions.specs.Line.{isHex, digitOf, allHex, hexValue, wellFormed, upperHex, hexDigits, answerLine, badLine, lineFor}
 use Rattle.definitions.specs.Line.{newline, written, begun, lastWritten, outputFor}
 
--- ---- an input line by line: three laws that determine the output
+-- ---- an input line by line: three laws
 
 -- no byte is a newline
 abbrev pub Unbroken : List ℕ → Type 0
@@ -51,6 +51,38 @@ output-last c a u = ap outputFor (sym (append-nil (c ∷ a))) ∙ after-more [] 
 pub output-none : outputFor [] ≡ []
 unfolding outputFor
 output-none = refl
+
+-- they determine it: whatever else meets them writes the same
+pub record LineByLine (f : List ℕ → List ℕ) : Type 0 where
+  pub line : (a b : List ℕ) → Unbroken a → f (a ++ (newline ∷ b)) ≡ lineFor a ++ (newline ∷ f b)
+  pub last : (c : ℕ) (a : List ℕ) → Unbroken (c ∷ a) → f (c ∷ a) ≡ lineFor (c ∷ a) ++ (newline ∷ [])
+  pub none : f [] ≡ []
+
+unbroken-more : (a : List ℕ) (c : ℕ) → Unbroken a → eqb c newline ≡ false → Unbroken (a ++ (c ∷ []))
+unbroken-more [] c u e = (e, tt)
+unbroken-more (d ∷ a) c u e = (u .0, unbroken-more a c (u .1) e)
+
+module _ (f : List ℕ → List ℕ) (h : LineByLine f) where
+  abbrev Same : List ℕ → Type 0
+  Same input = f input ≡ outputFor input
+
+  same-end : (a : List ℕ) → Unbroken a → Same a
+  same-end [] u = h .none ∙ sym output-none
+  same-end (c ∷ a) u = h .last c a u ∙ sym (output-last c a u)
+
+  same-line : (a b : List ℕ) → Unbroken a → Same b → Same (a ++ (newline ∷ b))
+  same-line a b u e = h .line a b u ∙ ap (λ (l : List ℕ). lineFor a ++ (newline ∷ l)) e ∙ sym (output-line a b u)
+
+  same-after : (a b : List ℕ) → Unbroken a → Same (a ++ b)
+  same-after a [] u = rw append-nil (same-end a u)
+  same-after a (c ∷ b) u = go (eqb c newline) refl (same-after [] b tt) (λ e. same-after (a ++ (c ∷ [])) b (unbroken-more a c u e))
+    where
+      go : (t : Bool) → eqb c newline ≡ t → Same b → (eqb c newline ≡ false → Same ((a ++ (c ∷ [])) ++ b)) → Same (a ++ (c ∷ b))
+      go true e ends more = rw (eqb-true c newline e) (same-line a b u ends)
+      go false e ends more = rw append-assoc at (more e)
+
+  pub output-only : (input : List ℕ) → f input ≡ outputFor input
+  output-only input = same-after [] input tt
 
 -- ---- one line: two laws that determine it, whether it has these parts or not
 
@@ -195,7 +227,8 @@ answer-back r h = pattern-back (r .value) h
 pub answer-upper : (r : Remainder) (i : ℕ) → i < 16 → Upper (getD (answerLine r) i 0)
 unfolding answerLine
 answer-upper r i h =
-    rw (List·getD-append (hexDigits 16 (r .value)) (32 ∷ (48 + r .quotient) ∷ 32 ∷ (48 + r .number) ∷ []) 0 i h) (all-upper 16 (r .value) i h)
+    let a = hexDigits 16 (r .value) in
+    subst Upper (sym (List·getD-append a (drop 16 (answerLine r)) 0 i h)) (all-upper 16 (r .value) i h)
 
 pub answer-rest : (r : Remainder) → drop 16 (answerLine r) ≡ 32 ∷ (48 + r .quotient) ∷ 32 ∷ (48 + r .number) ∷ []
 unfolding answerLine
