@@ -8,16 +8,17 @@ use Rattle.definitions.specs.Class.{Value, finite}
 use Rattle.definitions.specs.Format.{Format, Representable, classOf, patternOf, patterns, x87}
 use Rattle.definitions.specs.Numbers.{check, first, accepted, dividing}
 use Rattle.definitions.specs.declared.Kind.{Kind}
-use Rattle.definitions.specs.Division.{Outcome, by, finish, dividendOf}
+use Rattle.definitions.specs.Division.{Outcome, by, finish, dividendOf, divisorOf}
 use Rattle.definitions.specs.Steps as Steps
 use Rattle.definitions.specs.Steps.{followed}
 use Rattle.definitions.specs.Reports.{Report, Lent, fitting, sized, calling, reportOf, stepReport, runReport}
-use Rattle.definitions.specs.Calls.{Call, step, run, answer, budgetOf, valueAt}
+use Rattle.definitions.specs.Calls.{Call, step, run, answer, budgetOf, Adds, valueAt}
 use Rattle.laws.proofs.Regular.{regular80}
 use Rattle.laws.proofs.RoundTrip.{read-written, read-held, written-read}
 use Rattle.laws.proofs.Division.{cut-held, finish-held}
-use Rattle.chains.proofs.Step.{step-cases}
+use Rattle.chains.proofs.Step.{step-cases, step-one}
 use Rattle.chains.proofs.Run.{run-one}
+use Rattle.chains.proofs.Spent.{run-whole}
 use Rattle.chains.proofs.Lists.{sizeOf, openNumber, callOutcome, Tells, Telling}
 
 abbrev pub lentOf : Call → Lent
@@ -50,11 +51,12 @@ answer-is κ (step l n) x y v w ex ey p =
 answer-is κ (run l n b) x y v w ex ey p =
     rw (ex, ey, number-finite l n v w 7 (not (Steps.run κ n b (by (w .count)) v .done)) p, cond-not)
 
--- [5.3] a refused call has no steps and no quotient bits
-pub refused-adds : (κ : Kind) (y : ℕ) (c : Call) (x : ℕ) → accepted (answer κ y c x .number) ≡ false → (answer κ y c x .steps ≡ 0) × (answer κ y c x .quotient ≡ 0)
+-- [5.3] what a call adds, on all patterns
+pub answer-adds : (κ : Kind) (y : ℕ) (c : Call) (x : ℕ) → Adds (record { call = c; handed = x; report = answer κ y c x })
 unfolding answer stepReport runReport
-refused-adds κ y (step l n) x e = (rw e, rw e)
-refused-adds κ y (run l n b) x e = (rw e, rw e)
+answer-adds κ y (step l n) x =
+    record { refused = λ e. (rw e, rw e); answered = λ e. rw e (step-one κ n (divisorOf (classOf x87 y)) (dividendOf (classOf x87 x))) }
+answer-adds κ y (run l n b) x = record { refused = λ e. (rw e, rw e); answered = λ e s. run-whole l κ n b x y s }
 
 -- ---- values stay representable, so that a pattern is read as the value that was written
 

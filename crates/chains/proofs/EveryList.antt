@@ -12,10 +12,12 @@ use Rattle.definitions.specs.Division.{Outcome, by, finish}
 use Rattle.definitions.specs.Remainder.{quotientBits, remainderOf, remainder}
 use Rattle.definitions.specs.Steps as Steps
 use Rattle.definitions.specs.Reports.{Report, nothing, sized, reportOf}
-use Rattle.definitions.specs.Calls.{Call, run, answer, Taken, taken, lastValue, totalBudget, valueAt, EveryList}
+use Rattle.definitions.specs.Calls.{Call, run, answer, Made, made, answers, lastValue, finished, totalSteps, totalQuotient, totalBudget, EachAdds, valueAt, EveryList}
 use Rattle.chains.proofs.Outcome.{sound-finished, sound-bound, sound-ends}
-use Rattle.chains.proofs.Lists.{listed-taken, ListTells, list-good, list-tells}
-use Rattle.chains.proofs.Answer.{answer-is, State, finite-written, written-value, written-state, answer-tells}
+use Rattle.chains.proofs.Exact.{accounts-exact, accounts-whole}
+use Rattle.chains.proofs.Made.{listed-made, each-adds, totals}
+use Rattle.chains.proofs.Lists.{ListTells, list-good, list-tells}
+use Rattle.chains.proofs.Answer.{answer-is, answer-adds, State, finite-written, written-value, written-state, answer-tells}
 
 -- the remainder in one call of two finite operands, the divisor not zero
 pub remainder-is : (κ : Kind) (x y : ℕ) (v w : Value) → classOf x87 x ≡ finite v → classOf x87 y ≡ finite w → 0 < w .count
@@ -40,15 +42,29 @@ run-is κ n b x y v w ex ey p z = answer-is κ (run nothing n b) x y v w ex ey p
     go false = refl
 
 module _ (κ : Kind) (x y : ℕ) (w : Value) (cs : List Call) (sx : State x) (ey : classOf x87 y ≡ finite w) (p : 0 < w .count) where
-  calls : List (Taken ℕ)
-  calls = taken (answer κ y) cs x
+  calls : List (Made ℕ)
+  calls = made (answer κ y) cs x
 
-  told : ListTells valueAt κ w x calls
+  adds : EachAdds calls
+  unfolding calls
+  adds = each-adds (answer κ y) (answer-adds κ y) cs x
+
+  told : ListTells valueAt κ w x (answers calls)
   unfolding calls
   told = list-tells valueAt State κ w (answer κ y) p (answer-tells κ y w ey p) cs x sx
 
+  -- the totals of all calls are what the accepted ones tell
+  all-steps : totalSteps calls ≡ told .outcome .steps
+  all-steps = totals calls adds .steps ∙ told .steps
+
+  all-quotient : totalQuotient calls ≡ quotientBits (told .outcome .whole)
+  all-quotient = totals calls adds .quotient ∙ told .quotient
+
+  all-done : finished calls ≡ told .outcome .done
+  all-done = totals calls adds .finished ∙ told .done
+
   -- the last value's pattern
-  last : (u : Value) → told .outcome .value ≡ u → patternOf x87 (finite u) ≡ lastValue x calls
+  last : (u : Value) → told .outcome .value ≡ u → patternOf x87 (finite u) ≡ lastValue x (answers calls)
   unfolding calls
   last u e =
       ap (λ (z : Value). patternOf x87 (finite z)) (sym (told .reached ∙ e))
@@ -60,23 +76,25 @@ module _ (κ : Kind) (x y : ℕ) (w : Value) (cs : List Call) (sx : State x) (ey
       let r = told .outcome in
       let m = w .count in
       record {
-        listed = listed-taken (answer κ y) cs x;
-        counted = told .steps ∙ sym (told .links);
-        bound = rw (told .steps) (sound-bound κ m (valueAt x) r (told .sound));
-        ends = λ l. told .done ∙ sound-ends κ m (valueAt x) r (told .sound) (rw (told .steps) at l);
+        listed = listed-made (answer κ y) cs x;
+        adds = adds;
+        counted = all-steps ∙ sym (told .links);
+        bits = all-quotient ∙ ap quotientBits (sym (accounts-whole (told .account)));
+        bound = rw all-steps (sound-bound κ m (valueAt x) r (told .sound));
+        ends = λ l. all-done ∙ sound-ends κ m (valueAt x) r (told .sound) (rw all-steps at l);
         whole = λ f.
-            let e = sound-finished κ m (valueAt x) r (told .sound) (sym (told .done) ∙ f) in
+            let e = sound-finished κ m (valueAt x) r (told .sound) (sym all-done ∙ f) in
             remainder-is κ x y (valueAt x) w (sx .read) ey p
-            ∙ (λ i. record { number = 0; value = last (finish κ (by m) (valueAt x) .value) (e .value) i; quotient = (ap quotientBits (sym (e .whole)) ∙ sym (told .quotient)) i });
-        exact = rw (told .reached) (told .exact);
+            ∙ (λ i. record { number = 0; value = last (finish κ (by m) (valueAt x) .value) (e .value) i; quotient = (ap quotientBits (sym (e .whole)) ∙ sym all-quotient) i });
+        exact = rw (told .reached) (accounts-exact (told .account));
         one = λ n rs s.
-            run-is κ n (totalBudget calls) x y (valueAt x) w (sx .read) ey p (told .size n rs s) ∙ ap runTells (sym (told .one n rs))
-            ∙ (λ i. record { number = sym (told .number n rs) i; value = last (r .value) refl i; quotient = sym (told .quotient) i; steps = sym (told .steps) i });
+            run-is κ n (totalBudget (answers calls)) x y (valueAt x) w (sx .read) ey p (told .size n rs s) ∙ ap runTells (sym (told .one n rs))
+            ∙ (λ i. record { number = sym (told .number n rs) i; value = last (r .value) refl i; quotient = sym all-quotient i; steps = sym all-steps i });
       }
 
 pub every-list : (κ : Kind) (x y : ℕ) (v w : Value) (cs : List Call) → x < patterns x87 → classOf x87 x ≡ finite v
-    → classOf x87 y ≡ finite w → 0 < w .count → EveryList κ x y v w cs (taken (answer κ y) cs x)
+    → classOf x87 y ≡ finite w → 0 < w .count → EveryList κ x y v w cs (made (answer κ y) cs x)
 unfolding calls
 every-list κ x y v w cs lx ex ey p =
     let h = finite-written x v lx ex in
-    subst (λ (u : Value). EveryList κ x y u w cs (taken (answer κ y) cs x)) (written-value h) (claim κ x y w cs (written-state h) ey p)
+    subst (λ (u : Value). EveryList κ x y u w cs (made (answer κ y) cs x)) (written-value h) (claim κ x y w cs (written-state h) ey p)

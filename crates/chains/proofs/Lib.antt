@@ -1,12 +1,12 @@
-pub mod Ring
 pub mod Step
 pub mod Outcome
 pub mod Run
 pub mod Exact
+pub mod Spent
+pub mod Made
 pub mod Lists
 pub mod Answer
 pub mod EveryList
-pub mod Spent
 pub mod Continued
 pub mod Flags
 pub mod Small

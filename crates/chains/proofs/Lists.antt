@@ -5,7 +5,6 @@ use mathlib.Core.List.{List, [], _∷_, append-nil}
 use Prim.Native.Nat.{ℕ, _+_, _<_}
 use native.Mathlib.Nat.{add-zero, mod-add-mod, add-mod-mod, mod-mod}
 use native.Mathlib.Omega.{arith}
-use borrow.Author.Tests.{eqb-true}
 use lib.Dec.{eqb}
 use lib.ListN.{length, length-append}
 use Rattle.definitions.specs.Class.{Value}
@@ -16,22 +15,10 @@ use Rattle.definitions.specs.Remainder.{quotientModulus, quotientBits}
 use Rattle.definitions.specs.Steps as Steps
 use Rattle.definitions.specs.Steps.{followed, chain, partsSum}
 use Rattle.definitions.specs.Reports.{Report, sized}
-use Rattle.definitions.specs.Calls.{Call, step, run, Taken, goOn, taken, lastValue, lastNumber, finished, totalSteps, totalQuotient, budgetOf, totalBudget, IsRun, Runs, Some, Listed, none, refused, ends, goesOn, callChain, listChain}
-use Rattle.chains.proofs.Outcome.{Sound, sound-none, sound-followed}
+use Rattle.definitions.specs.Calls.{Call, step, run, Made, made, answers, lastValue, lastNumber, finished, totalSteps, totalQuotient, budgetOf, totalBudget, IsRun, Runs, Some, callChain, listChain}
+use Rattle.chains.proofs.Outcome.{Sound, sound-none, sound-unfinished, sound-followed}
 use Rattle.chains.proofs.Run.{run-resumed, sound-run, chain-length}
-use Rattle.chains.proofs.Exact.{Exact, exact-none, exact-followed, chain-exact, parts-append}
-
--- [5.2, 5.4] whatever answers the calls
-pub listed-taken : {A : Type 0} (f : Call → A → Report A) (cs : List Call) (x : A) → Listed f x cs (taken f cs x)
-unfolding taken
-listed-taken f [] x = none
-listed-taken {A} f (c ∷ cs) x = go (accepted (f c x .number)) (eqb (f c x .number) 0) refl refl (listed-taken f cs)
-  where
-    go : (a z : Bool) → accepted (f c x .number) ≡ a → eqb (f c x .number) 0 ≡ z → ((y : A) → Listed f y cs (taken f cs y))
-        → Listed f x (c ∷ cs) (goOn a z (record { call = c; handed = x; report = f c x }) (taken f cs))
-    go true true a e h = ends (eqb-true (f c x .number) 0 e)
-    go true false a e h = goesOn a e (h (f c x .value))
-    go false z a e h = refused a (h x)
+use Rattle.chains.proofs.Exact.{Accounts, accounts-none, accounts-followed, chain-accounts, parts-append}
 
 -- a call's size, and the number that it gives where it does not finish; a step is a run with a budget of one
 abbrev pub sizeOf : Call → ℕ
@@ -58,11 +45,11 @@ pub record Tells {A : Type 0} (value : A → Value) (κ : Kind) (m : ℕ) (c : C
   pub quotient : r .quotient ≡ quotientBits (callOutcome κ m c (value x) .whole)
   pub steps : r .steps ≡ callOutcome κ m c (value x) .steps
 
--- What a list tells: `outcome` is what it comes to
-pub record ListTells {A : Type 0} (value : A → Value) (κ : Kind) (w : Value) (x : A) (ts : List (Taken A)) : Type 0 where
+-- What the accepted calls of a list tell: `outcome` is what they come to
+pub record ListTells {A : Type 0} (value : A → Value) (κ : Kind) (w : Value) (x : A) (ts : List (Made A)) : Type 0 where
   pub outcome : Outcome
   pub sound : Sound κ (w .count) (value x) outcome
-  pub exact : Exact w (value x) (outcome .value) (partsSum w (listChain value κ (by (w .count)) ts))
+  pub account : Accounts w (value x) outcome (partsSum w (listChain value κ (by (w .count)) ts))
   pub links : length (listChain value κ (by (w .count)) ts) ≡ outcome .steps
   pub reached : value (lastValue x ts) ≡ outcome .value
   pub done : finished ts ≡ outcome .done
@@ -92,7 +79,7 @@ module _ {A : Type 0} (value : A → Value) (κ : Kind) (w : Value) (p : 0 < w .
       record {
         outcome = record { done = false; value = value x; whole = 0; steps = 0 };
         sound = sound-none κ (w .count) (value x);
-        exact = exact-none w (value x);
+        account = accounts-none w (value x);
         links = refl;
         reached = refl;
         done = refl;
@@ -110,9 +97,13 @@ module _ {A : Type 0} (value : A → Value) (κ : Kind) (w : Value) (p : 0 < w .
     own-chain : callChain κ (by (w .count)) c (value x) ≡ chain κ (sizeOf c) (budgetOf c) (by (w .count)) (value x)
     own-chain = call-chain κ (w .count) c (value x)
 
-    own-exact : Exact w (value x) (own .value) (partsSum w (callChain κ (by (w .count)) c (value x)))
+    own-account : Accounts w (value x) own (partsSum w (callChain κ (by (w .count)) c (value x)))
     unfolding own
-    own-exact = rw own-chain (chain-exact κ (sizeOf c) (budgetOf c) w (value x) p)
+    own-account = rw own-chain (chain-accounts κ (sizeOf c) (budgetOf c) w (value x) p)
+
+    own-sound : Sound κ (w .count) (value x) own
+    unfolding own
+    own-sound = sound-run κ (sizeOf c) (budgetOf c) (w .count) (value x) p (h .size)
 
     own-links : length (callChain κ (by (w .count)) c (value x)) ≡ own .steps
     unfolding own
@@ -131,8 +122,8 @@ module _ {A : Type 0} (value : A → Value) (κ : Kind) (w : Value) (p : 0 < w .
     tells-last e =
         record {
           outcome = own;
-          sound = sound-run κ (sizeOf c) (budgetOf c) (w .count) (value x) p (h .size);
-          exact = rw append-nil own-exact;
+          sound = own-sound;
+          account = rw append-nil own-account;
           links = rw append-nil own-links;
           reached = h .reached;
           done = rw (own-done, e);
@@ -144,13 +135,15 @@ module _ {A : Type 0} (value : A → Value) (κ : Kind) (w : Value) (p : 0 < w .
         }
 
     -- after one that has not, the list goes on from its value
-    tells-more : own .done ≡ false → (ts : List (Taken A)) → ListTells value κ w (r .value) ts → ListTells value κ w x (record { call = c; handed = x; report = r } ∷ ts)
+    tells-more : own .done ≡ false → (ts : List (Made A)) → ListTells value κ w (r .value) ts → ListTells value κ w x (record { call = c; handed = x; report = r } ∷ ts)
     unfolding own listChain partsSum lastValue finished totalQuotient totalSteps lastNumber totalBudget
     tells-more e ts g =
         record {
           outcome = followed own (g .outcome);
-          sound = sound-followed κ (w .count) (value x) own (g .outcome) p e (sound-run κ (sizeOf c) (budgetOf c) (w .count) (value x) p (h .size)) (rw (h .reached) at (g .sound));
-          exact = rw parts-append (exact-followed w (value x) (own .value) (g .outcome .value) _ _ own-exact (rw (h .reached) at (g .exact)));
+          sound = sound-followed κ (w .count) (value x) own (g .outcome) p e own-sound (rw (h .reached) at (g .sound));
+          account =
+              let sign = sound-unfinished κ (w .count) (value x) own own-sound e .sign in
+              rw parts-append (accounts-followed w (value x) own (g .outcome) _ _ sign own-account (rw (h .reached) at (g .account)));
           links = rw length-append (omega (arith, own-links, g .links));
           reached = g .reached;
           done = rw (own-done, e) (g .done);
@@ -169,26 +162,29 @@ abbrev pub Telling : {A : Type 0} → (A → Value) → (A → Type 0) → Kind 
 Telling {A} value Good κ m f = (c : Call) (x : A) → Good x → accepted (f c x .number) ≡ true → Tells value κ m c x (f c x) × Good (f c x .value)
 
 module _ {A : Type 0} (value : A → Value) (Good : A → Type 0) (κ : Kind) (w : Value) (f : Call → A → Report A) (p : 0 < w .count) (t : Telling value Good κ (w .count) f) where
-  pub list-good : (cs : List Call) (x : A) → Good x → Good (lastValue x (taken f cs x))
-  unfolding taken lastValue
+  pub list-good : (cs : List Call) (x : A) → Good x → Good (lastValue x (answers (made f cs x)))
+  unfolding made answers lastValue
   list-good [] x g = g
   list-good (c ∷ cs) x g = go (accepted (f c x .number)) (eqb (f c x .number) 0) refl (list-good cs)
     where
-      go : (a z : Bool) → accepted (f c x .number) ≡ a → ((y : A) → Good y → Good (lastValue y (taken f cs y)))
-          → Good (lastValue x (goOn a z (record { call = c; handed = x; report = f c x }) (taken f cs)))
+      go : (a z : Bool) → accepted (f c x .number) ≡ a → ((y : A) → Good y → Good (lastValue y (answers (made f cs y)))) → let us = answers (cond z [] (made f cs (cond a (f c x .value) x))) in
+          Good (lastValue x (cond a (record { call = c; handed = x; report = f c x } ∷ us) us))
       go true true e ih = t c x g e .1
       go true false e ih = ih (f c x .value) (t c x g e .1)
-      go false z e ih = ih x g
+      go false true e ih = g
+      go false false e ih = ih x g
 
-  pub list-tells : (cs : List Call) (x : A) → Good x → ListTells value κ w x (taken f cs x)
-  unfolding taken own
+  pub list-tells : (cs : List Call) (x : A) → Good x → ListTells value κ w x (answers (made f cs x))
+  unfolding made answers own
   list-tells [] x g = tells-none value κ w p x
   list-tells (c ∷ cs) x g = go (accepted (f c x .number)) (eqb (f c x .number) 0) refl refl (list-tells cs)
     where
-      go : (a z : Bool) → accepted (f c x .number) ≡ a → eqb (f c x .number) 0 ≡ z → ((y : A) → Good y → ListTells value κ w y (taken f cs y))
-          → ListTells value κ w x (goOn a z (record { call = c; handed = x; report = f c x }) (taken f cs))
+      go : (a z : Bool) → accepted (f c x .number) ≡ a → eqb (f c x .number) 0 ≡ z → ((y : A) → Good y → ListTells value κ w y (answers (made f cs y)))
+          → let us = answers (cond z [] (made f cs (cond a (f c x .value) x))) in
+          ListTells value κ w x (cond a (record { call = c; handed = x; report = f c x } ∷ us) us)
       go true true e d ih = let h = t c x g e .0 in tells-last value κ w p c x (f c x) h (sym (own-done value κ w p c x (f c x) h) ∙ d)
       go true false e d ih =
           let h = t c x g e .0 in
-          tells-more value κ w p c x (f c x) h (sym (own-done value κ w p c x (f c x) h) ∙ d) (taken f cs (f c x .value)) (ih (f c x .value) (t c x g e .1))
-      go false z e d ih = ih x g
+          tells-more value κ w p c x (f c x) h (sym (own-done value κ w p c x (f c x) h) ∙ d) (answers (made f cs (f c x .value))) (ih (f c x .value) (t c x g e .1))
+      go false true e d ih = tells-none value κ w p x
+      go false false e d ih = ih x g

@@ -65,6 +65,9 @@ Sound κ m x r = Ended (r .done) κ m x r
 pub sound-finished : (κ : Kind) (m : ℕ) (x : Value) (r : Outcome) → Sound κ m x r → r .done ≡ true → Finished κ m x r
 sound-finished κ m x r h e = subst (λ (d : Bool). Ended d κ m x r) e h
 
+pub sound-unfinished : (κ : Kind) (m : ℕ) (x : Value) (r : Outcome) → Sound κ m x r → r .done ≡ false → Unfinished m x r
+sound-unfinished κ m x r h e = subst (λ (d : Bool). Ended d κ m x r) e h
+
 pub sound-bound : (κ : Kind) (m : ℕ) (x : Value) (r : Outcome) → Sound κ m x r → r .steps ≤ mostSteps (gap (x .count) m)
 sound-bound κ m x r = go (r .done)
   where
@@ -120,7 +123,7 @@ unfinished-finish κ m x r p g =
 -- one outcome after another
 pub sound-followed : (κ : Kind) (m : ℕ) (x : Value) (r s : Outcome) → 0 < m → r .done ≡ false → Sound κ m x r → Sound κ m (r .value) s
     → Sound κ m x (followed r s)
-sound-followed κ m x r s p e f = go (s .done) (subst (λ (d : Bool). Ended d κ m x r) e f)
+sound-followed κ m x r s p e f = go (s .done) (sound-unfinished κ m x r f e)
   where
     go : (d : Bool) → Unfinished m x r → Ended d κ m (r .value) s → Ended d κ m x (followed r s)
     go true g h =

@@ -1,11 +1,12 @@
 -- [4.8] 7 comes exactly if nothing is refused and the chain needs more steps than the budget: on patterns. Assumes nothing.
-use mathlib.Core.Path.{_≡_, refl}
+use mathlib.Core.Path.{_≡_, refl, sym, _∙_}
 use mathlib.Core.Bool.{Bool, true, false, not, cond, _&&_, _||_}
 use mathlib.Core.List.{_++_}
 use Prim.Native.Nat.{ℕ, _<_, min}
 use native.Mathlib.Omega.{arith}
-use borrow.Author.Tests.{lt-ltb, le-ltb, leb-true, leb-false, not-false, eqb-false}
+use borrow.Author.Tests.{lt-ltb, le-ltb, ltb-true, leb-true, leb-false, not-false, eq-eqb, eqb-false}
 use lib.Dec.{leb, ltb, eqb}
+use Rattle.digits.proofs.Tests.{and-both}
 use Rattle.definitions.specs.Class.{Value, Class, unsupported, nan, infinite, finite}
 use Rattle.definitions.specs.Format.{classOf, x87}
 use Rattle.definitions.specs.Numbers.{first, accepted, dividing, isUnsupported, isNan, isInfinite, isZero}
@@ -109,3 +110,12 @@ module _ (l : Lent) (κ : Kind) (n b x y : ℕ) where
       let X = classOf x87 x in
       let Y = classOf x87 y in
       spent-steps (run κ n b (divisorOf Y) (dividendOf X)) b (neededBy κ n (divisorOf Y) (dividendOf X)) (within κ n b Y (dividendOf X)) (result l n X Y)
+
+  -- a run that gives 7 took its whole budget
+  pub run-whole : runReport l κ n b x y .number ≡ 7 → runReport l κ n b x y .steps ≡ b
+  run-whole e =
+      let X = classOf x87 x in
+      let Y = classOf x87 y in
+      let k = neededBy κ n (divisorOf Y) (dividendOf X) in
+      let h = and-both (eqb (refusal l n X Y) 0) (ltb b k) (sym run-number ∙ eq-eqb (runReport l κ n b x y .number) 7 e) in
+      run-report-steps ∙ rw (h .0) (omega (arith, ltb-true b k (h .1)))

@@ -1,0 +1,70 @@
+-- The calls that a list makes, on whatever a state is: the rules that they follow, and that refused ones add nothing. Assumes nothing.
+use mathlib.Core.Path.{_≡_, refl, _∙_}
+use mathlib.Core.Bool.{Bool, true, false, cond, _||_}
+use mathlib.Core.List.{List, [], _∷_}
+use Prim.Native.Nat.{ℕ, _+_}
+use native.Mathlib.Nat.{zero-add, mod-mod}
+use native.Mathlib.Omega.{arith}
+use borrow.Author.Tests.{eqb-true}
+use lib.Dec.{eqb}
+use Rattle.digits.proofs.Tests.{clash}
+use Rattle.definitions.specs.Numbers.{accepted}
+use Rattle.definitions.specs.Remainder.{quotientModulus, quotientBits}
+use Rattle.definitions.specs.Reports.{Report}
+use Rattle.definitions.specs.Calls.{Call, Made, next, made, answers, finished, totalSteps, totalQuotient, Listed, none, refused, ends, goesOn, Adds, EachAdds}
+
+-- [5.2, 5.4] the four rules
+pub listed-made : {A : Type 0} (f : Call → A → Report A) (cs : List Call) (x : A) → Listed f x cs (made f cs x)
+unfolding made
+listed-made f [] x = none
+listed-made {A} f (c ∷ cs) x = go (accepted (f c x .number)) (eqb (f c x .number) 0) refl refl (listed-made f cs)
+  where
+    go : (a z : Bool) → accepted (f c x .number) ≡ a → eqb (f c x .number) 0 ≡ z → ((y : A) → Listed f y cs (made f cs y))
+        → Listed f x (c ∷ cs) (record { call = c; handed = x; report = f c x } ∷ cond z [] (made f cs (cond a (f c x .value) x)))
+    go a true e d h = ends (eqb-true (f c x .number) 0 d)
+    go true false e d h = goesOn e d (h (f c x .value))
+    go false false e d h = refused e (h x)
+
+-- [5.3] what holds of every call holds of those that a list makes
+pub each-adds : {A : Type 0} (f : Call → A → Report A) → ((c : Call) (x : A) → Adds (record { call = c; handed = x; report = f c x }))
+    → (cs : List Call) (x : A) → EachAdds (made f cs x)
+unfolding made
+each-adds f h [] x = tt
+each-adds {A} f h (c ∷ cs) x = (h c x, go (eqb (f c x .number) 0) (made f cs (next x (f c x))) (each-adds f h cs (next x (f c x))))
+  where
+    go : (z : Bool) (ts : List (Made A)) → EachAdds ts → EachAdds (cond z [] ts)
+    go true ts g = tt
+    go false ts g = g
+
+-- the totals of all calls ts are those of the accepted ones us
+pub record Totals {A : Type 0} (ts us : List (Made A)) : Type 0 where
+  pub steps : totalSteps ts ≡ totalSteps us
+  pub quotient : totalQuotient ts ≡ totalQuotient us
+  pub finished : finished ts ≡ finished us
+
+total-bits : {A : Type 0} (ts : List (Made A)) → quotientBits (totalQuotient ts) ≡ totalQuotient ts
+unfolding totalQuotient
+total-bits [] = refl
+total-bits (t ∷ ts) = mod-mod (t .report .quotient + totalQuotient ts) quotientModulus
+
+refused-some : (n : ℕ) → accepted n ≡ false → eqb n 0 ≡ false
+refused-some n = go (eqb n 0)
+  where
+    go : (z : Bool) → z || eqb n 1 || eqb n 7 ≡ false → z ≡ false
+    go true e = clash (cc)
+    go false e = refl
+
+pub totals : {A : Type 0} (ts : List (Made A)) → EachAdds ts → Totals ts (answers ts)
+unfolding answers totalSteps totalQuotient finished
+totals [] h = record { steps = refl; quotient = refl; finished = refl }
+totals {A} (t ∷ ts) h = go (accepted (t .report .number)) refl (totals ts (h .1))
+  where
+    go : (a : Bool) → accepted (t .report .number) ≡ a → Totals ts (answers ts) → Totals (t ∷ ts) (cond a (t ∷ answers ts) (answers ts))
+    go true e g = record { steps = rw (g .steps); quotient = rw (g .quotient); finished = rw (g .finished) }
+    go false e g =
+        let n = h .0 .refused e in
+        record {
+          steps = omega (arith, n .0, g .steps);
+          quotient = rw (n .1, zero-add) (total-bits ts ∙ g .quotient);
+          finished = rw (refused-some (t .report .number) e) (g .finished);
+        }
