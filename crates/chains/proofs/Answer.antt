@@ -1,4 +1,4 @@
--- The answers of step and run on x87 patterns: their numbers, and what an accepted one tells. Assumes nothing.
+-- The answers of step and run on x87 patterns: their numbers, what each adds, and what an accepted one tells. Assumes nothing.
 use mathlib.Core.Path.{_≡_, refl, sym, ap, subst}
 use mathlib.Core.Bool.{Bool, true, false, not, cond}
 use mathlib.Core.List.{[], _∷_, _++_}
@@ -18,7 +18,7 @@ use Rattle.laws.proofs.RoundTrip.{read-written, read-held, written-read}
 use Rattle.laws.proofs.Division.{cut-held, finish-held}
 use Rattle.chains.proofs.Step.{step-cases, step-one}
 use Rattle.chains.proofs.Run.{run-one}
-use Rattle.chains.proofs.Spent.{run-whole}
+use Rattle.chains.proofs.Spent.{run-report-spent}
 use Rattle.chains.proofs.Lists.{sizeOf, openNumber, callOutcome, Tells, Telling}
 
 abbrev pub lentOf : Call → Lent
@@ -56,7 +56,7 @@ pub answer-adds : (κ : Kind) (y : ℕ) (c : Call) (x : ℕ) → Adds (record { 
 unfolding answer stepReport runReport
 answer-adds κ y (step l n) x =
     record { refused = λ e. (rw e, rw e); answered = λ e. rw e (step-one κ n (divisorOf (classOf x87 y)) (dividendOf (classOf x87 x))) }
-answer-adds κ y (run l n b) x = record { refused = λ e. (rw e, rw e); answered = λ e s. run-whole l κ n b x y s }
+answer-adds κ y (run l n b) x = record { refused = λ e. (rw e, rw e); answered = λ e s. run-report-spent l κ n b x y s }
 
 -- ---- values stay representable, so that a pattern is read as the value that was written
 

@@ -12,7 +12,7 @@ use Rattle.definitions.specs.Division.{Outcome, by, finish}
 use Rattle.definitions.specs.Remainder.{quotientBits, remainderOf, remainder}
 use Rattle.definitions.specs.Steps as Steps
 use Rattle.definitions.specs.Reports.{Report, nothing, sized, reportOf}
-use Rattle.definitions.specs.Calls.{Call, run, answer, Made, made, answers, lastValue, finished, totalSteps, totalQuotient, totalBudget, EachAdds, valueAt, EveryList}
+use Rattle.definitions.specs.Calls.{Call, run, answer, Made, made, answers, lastValue, finished, totalSteps, totalQuotient, totalBudget, Listed, EachAdds, valueAt, EveryList}
 use Rattle.chains.proofs.Outcome.{sound-finished, sound-bound, sound-ends}
 use Rattle.chains.proofs.Exact.{accounts-exact, accounts-whole}
 use Rattle.chains.proofs.Made.{listed-made, each-adds, totals}
@@ -41,42 +41,37 @@ run-is κ n b x y v w ex ey p z = answer-is κ (run nothing n b) x y v w ex ey p
     go true = refl
     go false = refl
 
-module _ (κ : Kind) (x y : ℕ) (w : Value) (cs : List Call) (sx : State x) (ey : classOf x87 y ≡ finite w) (p : 0 < w .count) where
-  calls : List (Made ℕ)
-  calls = made (answer κ y) cs x
+-- of whatever calls ts follow the four rules
+module _ (κ : Kind) (x y : ℕ) (w : Value) (cs : List Call) (ts : List (Made ℕ)) (listed : Listed (answer κ y) x cs ts) (sx : State x)
+    (ey : classOf x87 y ≡ finite w) (p : 0 < w .count) where
+  adds : EachAdds ts
+  adds = each-adds (answer κ y) (answer-adds κ y) listed
 
-  adds : EachAdds calls
-  unfolding calls
-  adds = each-adds (answer κ y) (answer-adds κ y) cs x
-
-  told : ListTells valueAt κ w x (answers calls)
-  unfolding calls
-  told = list-tells valueAt State κ w (answer κ y) p (answer-tells κ y w ey p) cs x sx
+  told : ListTells valueAt κ w x (answers ts)
+  told = list-tells valueAt State κ w (answer κ y) p (answer-tells κ y w ey p) listed sx
 
   -- the totals of all calls are what the accepted ones tell
-  all-steps : totalSteps calls ≡ told .outcome .steps
-  all-steps = totals calls adds .steps ∙ told .steps
+  all-steps : totalSteps ts ≡ told .outcome .steps
+  all-steps = totals ts adds .steps ∙ told .steps
 
-  all-quotient : totalQuotient calls ≡ quotientBits (told .outcome .whole)
-  all-quotient = totals calls adds .quotient ∙ told .quotient
+  all-quotient : totalQuotient ts ≡ quotientBits (told .outcome .whole)
+  all-quotient = totals ts adds .quotient ∙ told .quotient
 
-  all-done : finished calls ≡ told .outcome .done
-  all-done = totals calls adds .finished ∙ told .done
+  all-done : finished ts ≡ told .outcome .done
+  all-done = totals ts adds .finished ∙ told .done
 
   -- the last value's pattern
-  last : (u : Value) → told .outcome .value ≡ u → patternOf x87 (finite u) ≡ lastValue x (answers calls)
-  unfolding calls
+  last : (u : Value) → told .outcome .value ≡ u → patternOf x87 (finite u) ≡ lastValue x (answers ts)
   last u e =
       ap (λ (z : Value). patternOf x87 (finite z)) (sym (told .reached ∙ e))
-      ∙ list-good valueAt State κ w (answer κ y) p (answer-tells κ y w ey p) cs x sx .pattern
+      ∙ list-good valueAt State κ w (answer κ y) p (answer-tells κ y w ey p) listed sx .pattern
 
-  claim : EveryList κ x y (valueAt x) w cs calls
-  unfolding calls
+  claim : EveryList κ x y (valueAt x) w cs ts
   claim =
       let r = told .outcome in
       let m = w .count in
       record {
-        listed = listed-made (answer κ y) cs x;
+        listed = listed;
         adds = adds;
         counted = all-steps ∙ sym (told .links);
         bits = all-quotient ∙ ap quotientBits (sym (accounts-whole (told .account)));
@@ -88,13 +83,13 @@ module _ (κ : Kind) (x y : ℕ) (w : Value) (cs : List Call) (sx : State x) (ey
             ∙ (λ i. record { number = 0; value = last (finish κ (by m) (valueAt x) .value) (e .value) i; quotient = (ap quotientBits (sym (e .whole)) ∙ sym all-quotient) i });
         exact = rw (told .reached) (accounts-exact (told .account));
         one = λ n rs s.
-            run-is κ n (totalBudget (answers calls)) x y (valueAt x) w (sx .read) ey p (told .size n rs s) ∙ ap runTells (sym (told .one n rs))
+            run-is κ n (totalBudget (answers ts)) x y (valueAt x) w (sx .read) ey p (told .size n rs s) ∙ ap runTells (sym (told .one n rs))
             ∙ (λ i. record { number = sym (told .number n rs) i; value = last (r .value) refl i; quotient = sym all-quotient i; steps = sym all-steps i });
       }
 
 pub every-list : (κ : Kind) (x y : ℕ) (v w : Value) (cs : List Call) → x < patterns x87 → classOf x87 x ≡ finite v
     → classOf x87 y ≡ finite w → 0 < w .count → EveryList κ x y v w cs (made (answer κ y) cs x)
-unfolding calls
 every-list κ x y v w cs lx ex ey p =
     let h = finite-written x v lx ex in
-    subst (λ (u : Value). EveryList κ x y u w cs (made (answer κ y) cs x)) (written-value h) (claim κ x y w cs (written-state h) ey p)
+    let ts = made (answer κ y) cs x in
+    subst (λ (u : Value). EveryList κ x y u w cs ts) (written-value h) (claim κ x y w cs ts (listed-made (answer κ y) cs x) (written-state h) ey p)

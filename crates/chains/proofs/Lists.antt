@@ -1,4 +1,4 @@
--- Lists of calls, on whatever a state is: what each list comes to is one outcome to its first dividend. Assumes nothing.
+-- Lists of calls, on whatever a state is: what the accepted calls of each list come to is one outcome to its first dividend. Assumes nothing.
 use mathlib.Core.Path.{_≡_, refl, sym, ap, _∙_, subst}
 use mathlib.Core.Bool.{Bool, true, false, cond}
 use mathlib.Core.List.{List, [], _∷_, append-nil}
@@ -15,7 +15,7 @@ use Rattle.definitions.specs.Remainder.{quotientModulus, quotientBits}
 use Rattle.definitions.specs.Steps as Steps
 use Rattle.definitions.specs.Steps.{followed, chain, partsSum}
 use Rattle.definitions.specs.Reports.{Report, sized}
-use Rattle.definitions.specs.Calls.{Call, step, run, Made, made, answers, lastValue, lastNumber, finished, totalSteps, totalQuotient, budgetOf, totalBudget, IsRun, Runs, Some, callChain, listChain}
+use Rattle.definitions.specs.Calls.{Call, step, run, Made, answers, lastValue, lastNumber, finished, totalSteps, totalQuotient, budgetOf, totalBudget, IsRun, Runs, Some, Listed, none, refused, ends, goesOn, callChain, listChain}
 use Rattle.chains.proofs.Outcome.{Sound, sound-none, sound-unfinished, sound-followed}
 use Rattle.chains.proofs.Run.{run-resumed, sound-run, chain-length}
 use Rattle.chains.proofs.Exact.{Accounts, accounts-none, accounts-followed, chain-accounts, parts-append}
@@ -117,16 +117,16 @@ module _ {A : Type 0} (value : A → Value) (κ : Kind) (w : Value) (p : 0 < w .
     own-size n g = subst (λ (k : ℕ). sized k ≡ true) (run-size n c g) (h .size)
 
     -- a call that has finished ends the list
-    tells-last : own .done ≡ true → ListTells value κ w x (record { call = c; handed = x; report = r } ∷ [])
+    tells-last : eqb (r .number) 0 ≡ true → ListTells value κ w x (record { call = c; handed = x; report = r } ∷ [])
     unfolding own listChain partsSum lastValue finished totalQuotient totalSteps lastNumber totalBudget
-    tells-last e =
+    tells-last z =
         record {
           outcome = own;
           sound = own-sound;
           account = rw append-nil own-account;
           links = rw append-nil own-links;
           reached = h .reached;
-          done = rw (own-done, e);
+          done = rw z (sym z ∙ own-done);
           quotient = rw (add-zero, h .quotient) (mod-mod (own .whole) quotientModulus);
           steps = omega (arith, h .steps);
           number = λ n g. h .number ∙ ap (λ (k : ℕ). cond (own .done) 0 k) (run-open n c (g .0));
@@ -135,9 +135,10 @@ module _ {A : Type 0} (value : A → Value) (κ : Kind) (w : Value) (p : 0 < w .
         }
 
     -- after one that has not, the list goes on from its value
-    tells-more : own .done ≡ false → (ts : List (Made A)) → ListTells value κ w (r .value) ts → ListTells value κ w x (record { call = c; handed = x; report = r } ∷ ts)
+    tells-more : eqb (r .number) 0 ≡ false → (ts : List (Made A)) → ListTells value κ w (r .value) ts → ListTells value κ w x (record { call = c; handed = x; report = r } ∷ ts)
     unfolding own listChain partsSum lastValue finished totalQuotient totalSteps lastNumber totalBudget
-    tells-more e ts g =
+    tells-more z ts g =
+        let e = sym own-done ∙ z in
         record {
           outcome = followed own (g .outcome);
           sound = sound-followed κ (w .count) (value x) own (g .outcome) p e own-sound (rw (h .reached) at (g .sound));
@@ -146,7 +147,7 @@ module _ {A : Type 0} (value : A → Value) (κ : Kind) (w : Value) (p : 0 < w .
               rw parts-append (accounts-followed w (value x) own (g .outcome) _ _ sign own-account (rw (h .reached) at (g .account)));
           links = rw length-append (omega (arith, own-links, g .links));
           reached = g .reached;
-          done = rw (own-done, e) (g .done);
+          done = rw z (g .done);
           quotient = rw (h .quotient, g .quotient, mod-add-mod, add-mod-mod);
           steps = omega (arith, h .steps, g .steps);
           number = λ n i. ap (λ (k : ℕ). lastNumber k ts) (h .number ∙ ap (λ (d : Bool). cond d 0 (openNumber c)) e ∙ run-open n c (i .0)) ∙ g .number n (i .1);
@@ -161,30 +162,25 @@ module _ {A : Type 0} (value : A → Value) (κ : Kind) (w : Value) (p : 0 < w .
 abbrev pub Telling : {A : Type 0} → (A → Value) → (A → Type 0) → Kind → ℕ → (Call → A → Report A) → Type 0
 Telling {A} value Good κ m f = (c : Call) (x : A) → Good x → accepted (f c x .number) ≡ true → Tells value κ m c x (f c x) × Good (f c x .value)
 
-module _ {A : Type 0} (value : A → Value) (Good : A → Type 0) (κ : Kind) (w : Value) (f : Call → A → Report A) (p : 0 < w .count) (t : Telling value Good κ (w .count) f) where
-  pub list-good : (cs : List Call) (x : A) → Good x → Good (lastValue x (answers (made f cs x)))
-  unfolding made answers lastValue
-  list-good [] x g = g
-  list-good (c ∷ cs) x g = go (accepted (f c x .number)) (eqb (f c x .number) 0) refl (list-good cs)
-    where
-      go : (a z : Bool) → accepted (f c x .number) ≡ a → ((y : A) → Good y → Good (lastValue y (answers (made f cs y)))) → let us = answers (cond z [] (made f cs (cond a (f c x .value) x))) in
-          Good (lastValue x (cond a (record { call = c; handed = x; report = f c x } ∷ us) us))
-      go true true e ih = t c x g e .1
-      go true false e ih = ih (f c x .value) (t c x g e .1)
-      go false true e ih = g
-      go false false e ih = ih x g
+answers-accepted : {A : Type 0} (t : Made A) (ts : List (Made A)) → accepted (t .report .number) ≡ true → t ∷ answers ts ≡ answers (t ∷ ts)
+unfolding answers
+answers-accepted t ts e = rw e
 
-  pub list-tells : (cs : List Call) (x : A) → Good x → ListTells value κ w x (answers (made f cs x))
-  unfolding made answers own
-  list-tells [] x g = tells-none value κ w p x
-  list-tells (c ∷ cs) x g = go (accepted (f c x .number)) (eqb (f c x .number) 0) refl refl (list-tells cs)
-    where
-      go : (a z : Bool) → accepted (f c x .number) ≡ a → eqb (f c x .number) 0 ≡ z → ((y : A) → Good y → ListTells value κ w y (answers (made f cs y)))
-          → let us = answers (cond z [] (made f cs (cond a (f c x .value) x))) in
-          ListTells value κ w x (cond a (record { call = c; handed = x; report = f c x } ∷ us) us)
-      go true true e d ih = let h = t c x g e .0 in tells-last value κ w p c x (f c x) h (sym (own-done value κ w p c x (f c x) h) ∙ d)
-      go true false e d ih =
-          let h = t c x g e .0 in
-          tells-more value κ w p c x (f c x) h (sym (own-done value κ w p c x (f c x) h) ∙ d) (answers (made f cs (f c x .value))) (ih (f c x .value) (t c x g e .1))
-      go false true e d ih = tells-none value κ w p x
-      go false false e d ih = ih x g
+-- whatever calls follow the four rules
+module _ {A : Type 0} (value : A → Value) (Good : A → Type 0) (κ : Kind) (w : Value) (f : Call → A → Report A) (p : 0 < w .count) (t : Telling value Good κ (w .count) f) where
+  pub list-good : {x : A} {cs : List Call} {ts : List (Made A)} → Listed f x cs ts → Good x → Good (lastValue x (answers ts))
+  unfolding answers lastValue
+  list-good none g = g
+  list-good (refused e l) g = rw e (list-good l g)
+  list-good (ends {x} {c} e) g = rw e (t c x g (rw e) .1)
+  list-good (goesOn {x} {c} e d l) g = rw e (list-good l (t c x g e .1))
+
+  pub list-tells : {x : A} {cs : List Call} {ts : List (Made A)} → Listed f x cs ts → Good x → ListTells value κ w x (answers ts)
+  unfolding answers
+  list-tells (none {x}) g = tells-none value κ w p x
+  list-tells (refused e l) g = rw e (list-tells l g)
+  list-tells (ends {x} {c} e) g =
+      let a = ap accepted e in
+      subst (ListTells value κ w x) (answers-accepted _ [] a) (tells-last value κ w p c x (f c x) (t c x g a .0) (rw e))
+  list-tells (goesOn {x} {c} {cs} {ts} e z l) g =
+      subst (ListTells value κ w x) (answers-accepted _ ts e) (tells-more value κ w p c x (f c x) (t c x g e .0) z (answers ts) (list-tells l (t c x g e .1)))

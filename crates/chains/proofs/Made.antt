@@ -11,7 +11,7 @@ use Rattle.digits.proofs.Tests.{clash}
 use Rattle.definitions.specs.Numbers.{accepted}
 use Rattle.definitions.specs.Remainder.{quotientModulus, quotientBits}
 use Rattle.definitions.specs.Reports.{Report}
-use Rattle.definitions.specs.Calls.{Call, Made, next, made, answers, finished, totalSteps, totalQuotient, Listed, none, refused, ends, goesOn, Adds, EachAdds}
+use Rattle.definitions.specs.Calls.{Call, Made, made, answers, finished, totalSteps, totalQuotient, Listed, none, refused, ends, goesOn, Adds, EachAdds}
 
 -- [5.2, 5.4] the four rules
 pub listed-made : {A : Type 0} (f : Call → A → Report A) (cs : List Call) (x : A) → Listed f x cs (made f cs x)
@@ -25,16 +25,13 @@ listed-made {A} f (c ∷ cs) x = go (accepted (f c x .number)) (eqb (f c x .numb
     go true false e d h = goesOn e d (h (f c x .value))
     go false false e d h = refused e (h x)
 
--- [5.3] what holds of every call holds of those that a list makes
+-- [5.3] what each call adds
 pub each-adds : {A : Type 0} (f : Call → A → Report A) → ((c : Call) (x : A) → Adds (record { call = c; handed = x; report = f c x }))
-    → (cs : List Call) (x : A) → EachAdds (made f cs x)
-unfolding made
-each-adds f h [] x = tt
-each-adds {A} f h (c ∷ cs) x = (h c x, go (eqb (f c x .number) 0) (made f cs (next x (f c x))) (each-adds f h cs (next x (f c x))))
-  where
-    go : (z : Bool) (ts : List (Made A)) → EachAdds ts → EachAdds (cond z [] ts)
-    go true ts g = tt
-    go false ts g = g
+    → {x : A} {cs : List Call} {ts : List (Made A)} → Listed f x cs ts → EachAdds ts
+each-adds f h none = tt
+each-adds f h (refused {x} {c} e l) = (h c x, each-adds f h l)
+each-adds f h (ends {x} {c} e) = (h c x, tt)
+each-adds f h (goesOn {x} {c} e d l) = (h c x, each-adds f h l)
 
 -- the totals of all calls ts are those of the accepted ones us
 pub record Totals {A : Type 0} (ts us : List (Made A)) : Type 0 where

@@ -1,4 +1,4 @@
--- [4.8] 7 comes exactly if nothing is refused and the chain needs more steps than the budget: on patterns. Assumes nothing.
+-- [4.8] 7 comes exactly if nothing is refused and the chain needs more steps than the budget, which is then spent: on patterns. Assumes nothing.
 use mathlib.Core.Path.{_≡_, refl, sym, _∙_}
 use mathlib.Core.Bool.{Bool, true, false, not, cond, _&&_, _||_}
 use mathlib.Core.List.{_++_}
@@ -111,9 +111,9 @@ module _ (l : Lent) (κ : Kind) (n b x y : ℕ) where
       let Y = classOf x87 y in
       spent-steps (run κ n b (divisorOf Y) (dividendOf X)) b (neededBy κ n (divisorOf Y) (dividendOf X)) (within κ n b Y (dividendOf X)) (result l n X Y)
 
-  -- a run that gives 7 took its whole budget
-  pub run-whole : runReport l κ n b x y .number ≡ 7 → runReport l κ n b x y .steps ≡ b
-  run-whole e =
+  -- so that a run that gives 7 has spent its budget
+  pub run-report-spent : runReport l κ n b x y .number ≡ 7 → runReport l κ n b x y .steps ≡ b
+  run-report-spent e =
       let X = classOf x87 x in
       let Y = classOf x87 y in
       let k = neededBy κ n (divisorOf Y) (dividendOf X) in
