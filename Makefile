@@ -133,7 +133,7 @@ always:
 
 # ---- tests from outside
 
-.PHONY: header documents examples install-check rust $(addprefix test-,$(programs))
+.PHONY: header documents examples install-check program rust $(addprefix test-,$(programs))
 
 # it compiles, and names what the archive exports, no more and no less
 header: $(linked)
@@ -159,7 +159,11 @@ install-check: $(linked)
 	$(MAKE) --no-print-directory uninstall $(here)
 	test -z "$$(find $(out)/prefix -type f)"
 
-rust: $(linked)
+# rt proves again what has changed; after the archive, because two rt commands must not run in one tree at once
+program: | $(LIB)
+	rt check remainder_lines
+
+rust: $(linked) program
 	cd rust && $(cargo) test --release --offline --locked --no-fail-fast --features zukemoriha/std
 	cd rust && RUSTDOCFLAGS='-D warnings' $(cargo) doc --no-deps --offline --quiet
 

@@ -12,6 +12,7 @@ pub mod folds;
 mod formats;
 pub mod half;
 mod library;
+pub mod lines;
 pub mod lists;
 mod operands;
 pub mod published;

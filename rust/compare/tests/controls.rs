@@ -199,6 +199,28 @@ fn bad_cases_are_noticed() {
     assert_eq!(in_file(PAIR, path, &read(path)), 2);
 }
 
+/// Of the line program: a byte, a cut, a line that is lost and one that is written twice.
+#[test]
+fn a_wrong_output_of_the_line_program_is_noticed() {
+    let input = lines::drawn(20);
+    let right = lines::answers(&input);
+    let is_noticed = |written: &[u8]| lines::compare(&input, written).different > 0;
+    assert!(!is_noticed(&right));
+    for at in 0..right.len() {
+        let mut altered = right.clone();
+        altered[at] ^= 1;
+        assert!(is_noticed(&altered), "byte {at}");
+        assert!(is_noticed(&right[..at]), "cut after {at} bytes");
+    }
+    let lines: Vec<_> = right.split_inclusive(|&byte| byte == b'\n').collect();
+    for at in 0..lines.len() {
+        let lost = [&lines[..at], &lines[at + 1..]].concat().concat();
+        assert!(is_noticed(&lost), "line {at} lost");
+        let twice = [&lines[..=at], &lines[at..]].concat().concat();
+        assert!(is_noticed(&twice), "line {at} twice");
+    }
+}
+
 /// Bytes from one before the block on, and what the call returns.
 #[test]
 fn a_block_that_is_written_wrongly_is_noticed() {

@@ -1,0 +1,181 @@
+//! The line program as a process: on files, on a pipe that gives it few bytes at a time, before a
+//! reader that takes its time, and where a call fails. Expected are the second implementation's
+//! lines.
+
+use compare::lines::{self, BUFFER};
+use std::fs::{self, File};
+use std::io::{Read, Write};
+use std::process::{Child, Command, Output, Stdio};
+use std::thread;
+use std::time::Duration;
+
+const ROOT: &str = concat!(env!("CARGO_MANIFEST_DIR"), "/../..");
+
+const GOOD: &[u8] = b"4016000000000000 4000000000000000";
+const LONGER: &[u8] = b"4016000000000000 40000000000000000";
+
+fn start(input: impl Into<Stdio>, output: impl Into<Stdio>) -> Child {
+    let program = format!("{ROOT}/target/bin/remainder_lines");
+    let mut command = Command::new(&program);
+    command.stdin(input).stdout(output).stderr(Stdio::piped());
+    let child = command.spawn();
+    child.unwrap_or_else(|why| panic!("{program}: {why}; make tests builds it"))
+}
+
+/// What a program has written that ended well and complained of nothing.
+fn written(output: Output) -> Vec<u8> {
+    let said = String::from_utf8_lossy(&output.stderr);
+    assert!(output.status.success() && said.is_empty(), "{said}");
+    output.stdout
+}
+
+/// A file of this name for a test, open for reading.
+fn stored(name: &str, input: &[u8]) -> File {
+    let path = format!("{}/{name}", env!("CARGO_TARGET_TMPDIR"));
+    fs::write(&path, input).unwrap();
+    File::open(&path).unwrap()
+}
+
+fn on_file(name: &str, input: &[u8]) -> Vec<u8> {
+    let child = start(stored(name, input), Stdio::piped());
+    written(child.wait_with_output().unwrap())
+}
+
+/// How many lines of a right output tell the numbers 0, 3, 4 and 5, and how many are bad.
+fn told(input: &[u8], written: &[u8]) -> [usize; 5] {
+    assert_eq!(lines::compare(input, written).different, 0);
+    let text = String::from_utf8_lossy(written);
+    let ends = [" 0", " 3", " 4", " 5", "bad line"];
+    ends.map(|end| text.lines().filter(|line| line.ends_with(end)).count())
+}
+
+/// The output that the program is held to when it is proved is not its own, and its input has lines
+/// of every kind across the ends of the buffer: so many bytes before the end, and so many in all.
+#[test]
+fn the_stored_input() {
+    let read = |name: &str| fs::read(format!("{ROOT}/crates/remainder_lines/{name}")).unwrap();
+    let input = read("stdin");
+    assert_eq!(told(&input, &read("stdout")), [1_132, 84, 57, 62, 824]);
+    let cuts = lines::cuts(&input).into_iter();
+    let cuts: Vec<_> = cuts.map(|(place, line)| (place, line.len())).collect();
+    let expected = [
+        (11, 34),         // finished
+        (1, 34),          // a NaN
+        (17, 34),         // finished, in lower case
+        (33, 34),         // a zero divisor, its newline alone in the next read
+        (0, 1),           // empty
+        (32, 34),         // an infinite dividend, in lower case
+        (33, 35),         // bad by the next byte
+        (16, 72_601),     // longer than the buffer
+        (65_536, 72_601), // the same
+    ];
+    assert_eq!(cuts, expected);
+}
+
+/// Over a hundred reads, each of which ends in a line.
+#[test]
+fn a_long_file() {
+    let input = lines::cut_everywhere();
+    let told = told(&input, &on_file("long", &input));
+    let cuts = lines::cuts(&input);
+    println!("{} bytes, {} cuts, {told:?}", input.len(), cuts.len());
+    assert_eq!(
+        (told, cuts.len()),
+        ([131_503, 3_804, 3_057, 2_806, 84_569], 103)
+    );
+    for place in 0..34 {
+        let is_cut_there = |cut: &&(usize, &[u8])| cut.0 == place && cut.1.len() == 34;
+        assert_eq!(cuts.iter().filter(is_cut_there).count(), 2, "{place}");
+    }
+}
+
+/// Around the length of the buffer, whose answers need all of the room when it is full of newlines.
+#[test]
+fn lengths() {
+    let newlines = |count| vec![b'\n'; count];
+    let dots = |count| vec![b'.'; count];
+    for (number, input) in [
+        vec![],
+        newlines(1),
+        newlines(BUFFER - 1),
+        newlines(BUFFER),
+        newlines(BUFFER + 1),
+        newlines(3 * BUFFER + 1),
+        GOOD.to_vec(),
+        LONGER.to_vec(),
+        GOOD.repeat(BUFFER),
+        dots(BUFFER),
+        [&dots(BUFFER - 1)[..], b"\n"].concat(),
+        [&dots(BUFFER)[..], b"\n"].concat(),
+        [&dots(BUFFER - 34)[..], b"\n", GOOD].concat(),
+        [&dots(BUFFER - 34)[..], b"\n", LONGER].concat(),
+        [&dots(3 * BUFFER)[..], b"\n\n", GOOD, b"\n"].concat(),
+    ]
+    .iter()
+    .enumerate()
+    {
+        let told = told(input, &on_file("length", input));
+        println!("input {number}: {} bytes, {told:?}", input.len());
+    }
+}
+
+/// Pieces of few bytes, so that reads return with less than they could.
+#[test]
+fn a_slow_pipe() {
+    let input = lines::drawn(400);
+    let mut child = start(Stdio::piped(), Stdio::piped());
+    let mut pipe = child.stdin.take().unwrap();
+    let output = thread::scope(|scope| {
+        scope.spawn(|| {
+            let mut rest = &input[..];
+            for size in [1, 2, 33, 3, 34, 5, 17, 8, 35, 13, 21].into_iter().cycle() {
+                let (piece, others) = rest.split_at(size.min(rest.len()));
+                // a program that no longer reads is found by what it has written
+                if piece.is_empty() || pipe.write_all(piece).is_err() {
+                    return drop(pipe);
+                }
+                rest = others;
+                thread::sleep(Duration::from_millis(1));
+            }
+        });
+        child.wait_with_output().unwrap()
+    });
+    assert_eq!(told(&input, &written(output)), [240, 10, 4, 3, 143]);
+}
+
+/// A program that is stopped while it writes, and goes on, has written a part.
+#[test]
+fn a_slow_reader() {
+    let input = vec![b'\n'; 3 * BUFFER];
+    let mut child = start(stored("newlines", &input), Stdio::piped());
+    let mut pipe = child.stdout.take().unwrap();
+    let mut output = Vec::new();
+    while pipe.by_ref().take(50_000).read_to_end(&mut output).unwrap() > 0 {
+        interrupt(&child);
+    }
+    assert_eq!(told(&input, &output), [0, 0, 0, 0, 3 * BUFFER]);
+    written(child.wait_with_output().unwrap());
+}
+
+fn interrupt(child: &Child) {
+    let script = "kill -STOP $0; sleep 0.002; kill -CONT $0";
+    let pid = child.id().to_string();
+    let mut command = Command::new("sh");
+    command.args(["-c", script, &pid]).stderr(Stdio::null());
+    command.status().unwrap();
+}
+
+/// It is said once what failed, and nothing more is answered.
+#[test]
+fn failures() {
+    let directory = File::open(ROOT).unwrap();
+    let output = start(directory, Stdio::piped()).wait_with_output().unwrap();
+    assert_eq!(output.stderr, b"standard input: Is a directory\n");
+    assert_eq!(output.stdout, b"");
+    for input in [b"\n".repeat(3 * BUFFER), GOOD.to_vec()] {
+        let full = File::options().write(true).open("/dev/full").unwrap();
+        let child = start(stored("failure", &input), full);
+        let output = child.wait_with_output().unwrap();
+        assert_eq!(output.stderr, b"standard output: No space left on device\n");
+    }
+}
