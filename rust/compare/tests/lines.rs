@@ -5,7 +5,7 @@
 use compare::lines::{self, BUFFER};
 use std::fs::{self, File};
 use std::io::{Read, Write};
-use std::process::{Child, Command, Output, Stdio};
+use std::process::{Child, ChildStdin, Command, Output, Stdio};
 use std::thread;
 use std::time::Duration;
 
@@ -89,74 +89,74 @@ fn a_long_file() {
     }
 }
 
-/// Around the length of the buffer, whose answers need all of the room when it is full of newlines.
+/// Inputs around the length of the buffer, whose answers need all of the room when it is full of
+/// newlines, and how many lines they have.
 #[test]
 fn lengths() {
     let newlines = |count| vec![b'\n'; count];
     let dots = |count| vec![b'.'; count];
-    for (number, input) in [
-        vec![],
-        newlines(1),
-        newlines(BUFFER - 1),
-        newlines(BUFFER),
-        newlines(BUFFER + 1),
-        newlines(3 * BUFFER + 1),
-        GOOD.to_vec(),
-        LONGER.to_vec(),
-        GOOD.repeat(BUFFER),
-        dots(BUFFER),
-        [&dots(BUFFER - 1)[..], b"\n"].concat(),
-        [&dots(BUFFER)[..], b"\n"].concat(),
-        [&dots(BUFFER - 34)[..], b"\n", GOOD].concat(),
-        [&dots(BUFFER - 34)[..], b"\n", LONGER].concat(),
-        [&dots(3 * BUFFER)[..], b"\n\n", GOOD, b"\n"].concat(),
-    ]
-    .iter()
-    .enumerate()
-    {
-        let told = told(input, &on_file("length", input));
-        println!("input {number}: {} bytes, {told:?}", input.len());
+    for (input, lines) in [
+        (vec![], 0),
+        (newlines(1), 1),
+        (newlines(BUFFER - 1), BUFFER - 1),
+        (newlines(BUFFER), BUFFER),
+        (newlines(BUFFER + 1), BUFFER + 1),
+        (newlines(3 * BUFFER + 1), 3 * BUFFER + 1),
+        (GOOD.to_vec(), 1),
+        (LONGER.to_vec(), 1),
+        (GOOD.repeat(BUFFER), 1),
+        (dots(BUFFER), 1),
+        ([&dots(BUFFER - 1)[..], b"\n"].concat(), 1),
+        ([&dots(BUFFER)[..], b"\n"].concat(), 1),
+        ([&dots(BUFFER - 34)[..], b"\n", GOOD].concat(), 2),
+        ([&dots(BUFFER - 34)[..], b"\n", LONGER].concat(), 2),
+        ([&dots(3 * BUFFER)[..], b"\n\n", GOOD, b"\n"].concat(), 3),
+    ] {
+        let told = told(&input, &on_file("length", &input));
+        println!("{} bytes: {told:?}", input.len());
+        assert_eq!(told.iter().sum::<usize>(), lines);
     }
 }
 
-/// Pieces of few bytes, so that reads return with less than they could.
 #[test]
 fn a_slow_pipe() {
     let input = lines::drawn(400);
     let mut child = start(Stdio::piped(), Stdio::piped());
-    let mut pipe = child.stdin.take().unwrap();
+    let pipe = child.stdin.take().unwrap();
     let output = thread::scope(|scope| {
-        scope.spawn(|| {
-            let mut rest = &input[..];
-            for size in [1, 2, 33, 3, 34, 5, 17, 8, 35, 13, 21].into_iter().cycle() {
-                let (piece, others) = rest.split_at(size.min(rest.len()));
-                // a program that no longer reads is found by what it has written
-                if piece.is_empty() || pipe.write_all(piece).is_err() {
-                    return drop(pipe);
-                }
-                rest = others;
-                thread::sleep(Duration::from_millis(1));
-            }
-        });
+        scope.spawn(|| feed(pipe, &input));
         child.wait_with_output().unwrap()
     });
     assert_eq!(told(&input, &written(output)), [240, 10, 4, 3, 143]);
 }
 
-/// A program that is stopped while it writes, and goes on, has written a part.
+/// Few bytes at a time, so that reads return with less than they could. A program that no longer
+/// reads is found by what it has written.
+fn feed(mut pipe: ChildStdin, mut input: &[u8]) {
+    for size in [1, 2, 33, 3, 34, 5, 17, 8, 35, 13, 21].into_iter().cycle() {
+        let (piece, rest) = input.split_at(size.min(input.len()));
+        if piece.is_empty() || pipe.write_all(piece).is_err() {
+            return;
+        }
+        input = rest;
+        thread::sleep(Duration::from_millis(1));
+    }
+}
+
 #[test]
 fn a_slow_reader() {
-    let input = vec![b'\n'; 3 * BUFFER];
-    let mut child = start(stored("newlines", &input), Stdio::piped());
+    let input = [vec![b'\n'; 2 * BUFFER], lines::drawn(10_000)].concat();
+    let mut child = start(stored("slow", &input), Stdio::piped());
     let mut pipe = child.stdout.take().unwrap();
     let mut output = Vec::new();
     while pipe.by_ref().take(50_000).read_to_end(&mut output).unwrap() > 0 {
         interrupt(&child);
     }
-    assert_eq!(told(&input, &output), [0, 0, 0, 0, 3 * BUFFER]);
+    assert_eq!(told(&input, &output), [5_875, 160, 145, 120, 134_772]);
     written(child.wait_with_output().unwrap());
 }
 
+/// A program that is stopped while it writes, and goes on, has written a part.
 fn interrupt(child: &Child) {
     let script = "kill -STOP $0; sleep 0.002; kill -CONT $0";
     let pid = child.id().to_string();
@@ -168,14 +168,16 @@ fn interrupt(child: &Child) {
 /// It is said once what failed, and nothing more is answered.
 #[test]
 fn failures() {
-    let directory = File::open(ROOT).unwrap();
-    let output = start(directory, Stdio::piped()).wait_with_output().unwrap();
-    assert_eq!(output.stderr, b"standard input: Is a directory\n");
-    assert_eq!(output.stdout, b"");
-    for input in [b"\n".repeat(3 * BUFFER), GOOD.to_vec()] {
+    let said = |child: Child| {
+        let output = child.wait_with_output().unwrap();
+        assert_eq!(output.stdout, b"");
+        String::from_utf8(output.stderr).unwrap()
+    };
+    let child = start(File::open(ROOT).unwrap(), Stdio::piped());
+    assert_eq!(said(child), "standard input: Is a directory\n");
+    for input in [vec![b'\n'; 3 * BUFFER], GOOD.to_vec()] {
         let full = File::options().write(true).open("/dev/full").unwrap();
         let child = start(stored("failure", &input), full);
-        let output = child.wait_with_output().unwrap();
-        assert_eq!(output.stderr, b"standard output: No space left on device\n");
+        assert_eq!(said(child), "standard output: No space left on device\n");
     }
 }
