@@ -1,5 +1,6 @@
 // Answers each line of standard input by a line of standard output. What is written for a buffer of
-// input, and what is kept of it, is proved in `stream`; what this file does is read, hand on and write, and its stored input tests that.
+// input, and what is kept of it, is proved in `stream`; what this file does is read, hand on and write. Tests cover that: its stored
+// input, and rust/compare/tests/lines.rs.
 use libc::STDIN_FILENO;
 use libc::STDOUT_FILENO;
 use stream::answer_last;

@@ -5,6 +5,8 @@
 use compare::lines::{self, BUFFER};
 use std::fs::{self, File};
 use std::io::{Read, Write};
+use std::os::unix::io::OwnedFd;
+use std::os::unix::net::UnixStream;
 use std::process::{Child, ChildStdin, Command, Output, Stdio};
 use std::thread;
 use std::time::Duration;
@@ -165,19 +167,34 @@ fn interrupt(child: &Child) {
     command.status().unwrap();
 }
 
-/// It is said once what failed, and nothing more is answered.
+/// What a program has written and said.
+fn ended(child: Child) -> [String; 2] {
+    let output = child.wait_with_output().unwrap();
+    [output.stdout, output.stderr].map(|text| String::from_utf8(text).unwrap())
+}
+
+/// What has failed is said once, and nothing more is answered.
 #[test]
-fn failures() {
-    let said = |child: Child| {
-        let output = child.wait_with_output().unwrap();
-        assert_eq!(output.stdout, b"");
-        String::from_utf8(output.stderr).unwrap()
-    };
-    let child = start(File::open(ROOT).unwrap(), Stdio::piped());
-    assert_eq!(said(child), "standard input: Is a directory\n");
-    for input in [vec![b'\n'; 3 * BUFFER], GOOD.to_vec()] {
+fn failed_reads() {
+    let directory = start(File::open(ROOT).unwrap(), Stdio::piped());
+    assert_eq!(ended(directory), ["", "standard input: Is a directory\n"]);
+    // a socket that was closed before all was read at its other end
+    let (ours, mut theirs) = UnixStream::pair().unwrap();
+    theirs.write_all(b"unread").unwrap();
+    (&ours).write_all(&[GOOD, b"\n", GOOD].concat()).unwrap();
+    drop(ours);
+    let reset = start(OwnedFd::from(theirs), Stdio::piped());
+    let said = "standard input: Connection reset by peer\n";
+    assert_eq!(ended(reset), ["3FF8000000000000 2 0\n", said]);
+}
+
+#[test]
+fn failed_writes() {
+    let ended_and_begun = [b"\n", GOOD].concat();
+    for input in [vec![b'\n'; 3 * BUFFER], GOOD.to_vec(), ended_and_begun] {
         let full = File::options().write(true).open("/dev/full").unwrap();
         let child = start(stored("failure", &input), full);
-        assert_eq!(said(child), "standard output: No space left on device\n");
+        let said = "standard output: No space left on device\n";
+        assert_eq!(ended(child), ["", said]);
     }
 }
