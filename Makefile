@@ -133,7 +133,7 @@ always:
 
 # ---- tests from outside
 
-.PHONY: header documents examples install-check program rust $(addprefix test-,$(programs))
+.PHONY: header documents examples install-check rust $(addprefix test-,$(programs))
 
 # it compiles, and names what the archive exports, no more and no less
 header: $(linked)
@@ -159,11 +159,9 @@ install-check: $(linked)
 	$(MAKE) --no-print-directory uninstall $(here)
 	test -z "$$(find $(out)/prefix -type f)"
 
-# rt proves again what has changed; after the archive, because two rt commands must not run in one tree at once
-program: | $(LIB)
+# the tests run the line program; rt builds it again if it has changed, and nothing else here calls rt once there is an archive
+rust: $(linked)
 	rt check remainder_lines
-
-rust: $(linked) program
 	cd rust && $(cargo) test --release --offline --locked --no-fail-fast --features zukemoriha/std
 	cd rust && RUSTDOCFLAGS='-D warnings' $(cargo) doc --no-deps --offline --quiet
 
