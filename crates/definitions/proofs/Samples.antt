@@ -14,6 +14,8 @@ use Rattle.definitions.specs.declared.Rounding.the-variants.{Exact, Up, 
 use Rattle.definitions.specs.Steps.{step, run}
 use Rattle.definitions.specs.Reports.{nothing, stepReport, runReport}
 use Rattle.definitions.specs.Fold.{Folded, foldList}
+use Rattle.definitions.specs.declared.Refusal.the-variants as why
+use Rattle.definitions.specs.Answers.{refusalNumber}
 use Rattle.definitions.specs.Block.{kindOf, blockAfter}
 use Rattle.definitions.specs.Line.{isHex, digitOf, lineFor, outputFor}
 use Rattle.definitions.specs.Exports.{after, significandIn, wordIn, saysNumber}
@@ -95,6 +97,11 @@ pub crossing : (words 0xC0DF 0x8123456789ABCDEF ≡ 0xC0DF8123456789ABCDEF)
     × (map saysNumber (Exact ∷ Up ∷ Down ∷ []) ≡ 0 ∷ 1 ∷ 2 ∷ [])
     × (map {B = ℕ} (λ n. after n 1 0) (0 ∷ 1 ∷ 2 ∷ 3 ∷ 4 ∷ 5 ∷ 6 ∷ 7 ∷ 8 ∷ 9 ∷ []) ≡ 1 ∷ 1 ∷ 0 ∷ 0 ∷ 0 ∷ 0 ∷ 0 ∷ 1 ∷ 0 ∷ 0 ∷ [])
 crossing = (refl, refl, refl, refl, refl, refl)
+
+-- [7.1] the number of each refusal of the code
+pub refusal-numbers : map refusalNumber (why.BadLength ∷ why.BadSize ∷ why.Unsupported ∷ why.Nan ∷ why.Infinite ∷ why.ZeroDivisor ∷ why.ZeroSplit ∷ [])
+    ≡ 9 ∷ 6 ∷ 2 ∷ 3 ∷ 4 ∷ 5 ∷ 8 ∷ []
+refusal-numbers = refl
 
 -- ---- [10.1] the bytes that are hex digits, among all, and what they stand for
 abbrev hexBytes : ℕ → ℕ → List ℕ
