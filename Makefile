@@ -19,7 +19,7 @@ SHELL = /bin/bash
 LIB = target/libzukemoriha.a
 # where the C programs and the Rust crates are built
 out = target/c
-# the same, on a library that can make mistakes
+# the same programs on a library that can make mistakes
 faults = target/faulty
 linked = $(out)/lib/libzukemoriha.a
 
@@ -62,12 +62,12 @@ check: tools ## what has changed is proved, then the tests (minutes)
 	$(parallel) tests
 	@echo 'every crate proved, every test passed'
 
-tests: header documents examples install-check rust $(addprefix test-,$(programs)) ## the tests alone, on the archive of what is proved
+tests: header documents examples install-check rust $(addprefix test-,$(programs)) controls ## the tests alone, on the archive of what is proved
 
 check-long: peers long-half $(addprefix long-,chains fprem libm ldexp libm-musl ldexp-musl mpfr) ## ten million cases a format, musl, MPFR, all pairs of binary16 (an hour; cases=N seed=N for others)
 
-check-faults: $(faults)/libzukemoriha.a ## the tests on a library with one fault at a time: each has to be noticed
-	$(MAKE) --no-print-directory out=$(faults) LIB=$< noticed
+check-faults: $(addprefix $(faults)/,$(programs)) ## the tests on a library with one fault at a time: each has to be noticed
+	sh tests/faults.sh $(faults) '$(subst $(out)/,$(faults)/,$(cargo))'
 
 bench: bench-calls bench-lines ## times, ratios and instructions of calls, then the line program
 
@@ -169,11 +169,17 @@ rust: $(linked)
 documents:
 	sh tests/documents.sh
 
-$(out)/%: tests/%.c $(headers) $(linked)
-	$(CC) $(cflags) $(unbuilt) -Itests $< $(linked) -lm -o $@
+# objects, linked here with the archive and below with the faults
+link = $(if $(filter host,$*),$(CXX),$(CC))
 
-$(out)/host: tests/host.cc include/zukemoriha.h $(linked)
-	$(CXX) -O2 $(warnings) -Iinclude $< $(linked) -o $@
+$(addprefix $(out)/,$(addsuffix .o,$(filter-out host,$(programs)))): $(out)/%.o: tests/%.c $(headers) | $(out)
+	$(CC) $(cflags) $(unbuilt) -Itests -c $< -o $@
+
+$(out)/host.o: tests/host.cc include/zukemoriha.h | $(out)
+	$(CXX) -O2 $(warnings) -Iinclude -c $< -o $@
+
+$(addprefix $(out)/,$(programs)): $(out)/%: $(out)/%.o $(linked)
+	$(link) $< $(linked) -lm -o $@
 
 $(addprefix test-,$(programs)): test-%: $(out)/%
 	$<
@@ -202,17 +208,25 @@ long-half: $(out)/half
 
 # ---- faults: the exports renamed, and functions of the same names before them that make one mistake
 
-.PHONY: noticed
+.PHONY: controls
 
-$(faults)/libzukemoriha.a: tests/faults.c include/zukemoriha.h target/libzukemoriha.a
-	mkdir -p $(faults)
+$(faults)/lib/libzukemoriha.a: tests/faults.c include/zukemoriha.h $(linked)
+	mkdir -p $(@D)
 	$(exported) | sed 's/.*/& real_&/' > $(faults)/names
-	objcopy --redefine-syms=$(faults)/names target/libzukemoriha.a $@
+	objcopy --redefine-syms=$(faults)/names $(linked) $@
 	$(CC) $(cflags) -c tests/faults.c -o $(faults)/faults.o
 	ar r $@ $(faults)/faults.o
 
-noticed: rust $(addprefix $(out)/,$(programs))
-	sh tests/faults.sh $(out) '$(cargo)'
+$(addprefix $(faults)/,$(programs)): $(faults)/%: $(out)/%.o $(faults)/lib/libzukemoriha.a
+	$(link) $< $(faults)/lib/libzukemoriha.a -lm -o $@
+
+# libm on a C library whose remainder is its fmod
+$(faults)/disputed: $(out)/libm.o $(faults)/lib/libzukemoriha.a
+	objcopy --redefine-sym remainder=fmod $< $@.o
+	$(CC) $@.o $(faults)/lib/libzukemoriha.a -lm -o $@
+
+controls: $(addprefix $(faults)/,$(programs) disputed)
+	sh tests/controls.sh $(faults) $(programs)
 
 # ---- measurements
 

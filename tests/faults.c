@@ -1,6 +1,7 @@
 /*
  * The library with one fault at a time: what the tests are worth. In the archive that they are linked with the exports are called real_*,
- * and the functions here have their names; FAULT in the environment says which fault is made. tests/faults.sh runs them.
+ * and the functions here have their names; FAULT in the environment says which fault is made. tests/controls.sh runs a fault for each
+ * comparison of the programs, tests/faults.sh all faults on all tests.
  */
 #include "zukemoriha.h"
 
@@ -39,7 +40,14 @@ static int fault(const char *name) {
 static const uint64_t sign64 = UINT64_C(0x8000000000000000), infinity64 = UINT64_C(0x7FF0000000000000);
 
 uint8_t zk_rem16(uint16_t x, uint16_t y, uint32_t kind, uint16_t *value, uint32_t *quotient) {
-    uint8_t number = real_zk_rem16(x, y, kind, value, quotient);
+    uint8_t number;
+    if (fault("rem16-only-1-is-nearest"))
+        kind = kind == 1;
+    number = real_zk_rem16(x, y, kind, value, quotient);
+    if (fault("rem16-quotient-of-two-bits") && number == ZK_FINISHED)
+        *quotient &= 3;
+    if (fault("rem16-refusal-writes") && number == ZK_ZERO_DIVISOR)
+        *value = x;
     if (fault("rem16-denormal-by-infinity-is-zero") && number == ZK_FINISHED && (y & 0x7FFF) == 0x7C00 && (x & 0x7FFF) < 0x400)
         *value = x & 0x8000; /* by infinity, a denormal is taken for a zero */
     if (fault("rem16-infinity-by-zero-is-five") && number == ZK_INFINITE && (y & 0x7FFF) == 0)
@@ -51,6 +59,12 @@ uint8_t zk_rem32(uint32_t x, uint32_t y, uint32_t kind, uint32_t *value, uint32_
     uint8_t number = real_zk_rem32(x, y, kind, value, quotient);
     if (fault("rem32-eight-is-not-folded") && number == ZK_FINISHED && kind && *quotient == 0 && *value != x)
         *quotient = 8; /* eight is not folded onto nothing */
+    if (fault("rem32-far-quotient-of-two-bits") && number == ZK_FINISHED && (int)(x >> 23 & 255) - (int)(y >> 23 & 255) >= 100)
+        *quotient &= 3;
+    if (fault("rem32-zero-loses-its-sign") && number == ZK_FINISHED && *value == 0x80000000)
+        *value = 0;
+    if (fault("rem32-other-kinds-write-more") && number == ZK_FINISHED && kind > 1)
+        value[1] = 0; /* behind the value, for a kind that is neither 0 nor 1 */
     if (fault("rem32-infinite-dividend-before-nan") && number == ZK_NAN && (x & 0x7FFFFFFF) == 0x7F800000)
         return ZK_INFINITE; /* an infinite dividend is judged before a NaN divisor */
     return number;
@@ -78,12 +92,25 @@ uint8_t zk_rem64(uint64_t x, uint64_t y, uint32_t kind, uint64_t *value, uint32_
         *quotient &= 3; /* two bits of a far quotient */
     if (fault("rem64-refusal-writes") && number == ZK_NAN)
         *quotient = 0; /* a refusal writes */
+    if (fault("rem64-last-bit-is-wrong") && number == ZK_FINISHED)
+        *value ^= 1;
+    if (fault("rem64-quotient-of-one-bit") && number == ZK_FINISHED)
+        *quotient &= 1;
+    if (fault("rem64-fraction-is-infinite") && number == ZK_FINISHED && x << 12 != 0)
+        return ZK_INFINITE; /* a dividend that is no power of two is told as infinite */
     return number;
 }
 
 uint8_t zk_rem80(uint64_t x, uint16_t xw, uint64_t y, uint16_t yw, uint32_t kind, uint64_t *value, uint16_t *valuew,
                         uint32_t *quotient) {
-    uint8_t number = real_zk_rem80(x, xw, y, yw, kind, value, valuew, quotient);
+    uint8_t number;
+    if (fault("rem80-pseudo-denormal-is-a-number")) {
+        xw += (xw & 32767) == 0 && x >= sign64; /* e = 0 with J = 1 is taken as a number */
+        yw += (yw & 32767) == 0 && y >= sign64;
+    }
+    number = real_zk_rem80(x, xw, y, yw, kind, value, valuew, quotient);
+    if (fault("rem80-far-quotient-of-two-bits") && number == ZK_FINISHED && (int)(xw & 32767) - (int)(yw & 32767) >= 40)
+        *quotient &= 3;
     if (fault("rem80-infinite-dividend-before-unsupported") && number == ZK_UNSUPPORTED && (xw & 32767) == 32767 && x == sign64)
         return ZK_INFINITE; /* an infinite dividend is judged before an unsupported divisor */
     if (fault("rem80-zero-has-the-divisors-sign") && number == ZK_FINISHED && *value == 0)
@@ -101,7 +128,29 @@ uint8_t zk_step80(uint64_t x, uint16_t xw, uint64_t y, uint16_t yw, uint32_t siz
         size &= 255;
     if (fault("step-length-cut-to-a-byte"))
         length &= 255;
+    if (fault("step-length-cut-to-32-bits"))
+        length = (uint32_t)length;
+    if (fault("step-only-1-is-nearest"))
+        kind = kind == 1;
     number = real_zk_step80(x, xw, y, yw, size, kind, block, length);
+    if (fault("step-c3-and-c1-exchanged") && number == ZK_FINISHED)
+        block[11] = (block[11] & 4) | (block[11] & 1) << 1 | (block[11] >> 1 & 1);
+    if (fault("step-c0-lost") && number == ZK_FINISHED)
+        block[11] &= 3;
+    if (fault("step-quotient-of-four-bits") && number == ZK_FINISHED && kind && block[11] == 0 && x != zk_block_significand(block))
+        block[11] = 8; /* eight is not folded onto nothing */
+    if (fault("step-end-has-the-divisors-sign") && number == ZK_FINISHED && zk_block_significand(block) == 0)
+        block[9] = yw >> 8 & 0x80; /* the sign of a zero that finishes */
+    if (fault("step-end-is-refused") && number == ZK_FINISHED && zk_block_significand(block) == 0)
+        return ZK_INFINITE; /* a zero that finishes */
+    if (fault("step-last-not-counted") && number == ZK_FINISHED)
+        block[12] = 0;
+    if (fault("step-refusal-writes") && number == ZK_NAN)
+        block[0] = 0;
+    if (fault("step-refusal-told-as-bad-length") && number == ZK_NAN)
+        return ZK_BAD_LENGTH;
+    if (fault("step-writes-a-byte-more") && zk_is_answer(number))
+        block[ZK_BLOCK_LENGTH] = 0;
     if (fault("step-part-of-four-lost") && number == ZK_PARTIAL && block[11] == 4)
         block[11] = 0; /* a part of four is lost */
     if (fault("step-zero-loses-its-sign") && number == ZK_PARTIAL && zk_block_significand(block) == 0)
@@ -120,7 +169,23 @@ uint8_t zk_run80(uint64_t x, uint16_t xw, uint64_t y, uint16_t yw, uint32_t size
         budget = 1;
     if (fault("run-budget-cut-to-16-bits"))
         budget &= 65535;
+    if (fault("run-budget-cut-to-a-byte"))
+        budget &= 255;
+    if (fault("run-size-cut-to-a-byte"))
+        size &= 255;
+    if (fault("run-length-cut-to-32-bits"))
+        length = (uint32_t)length;
+    if (fault("run-only-1-is-nearest"))
+        kind = kind == 1;
     number = real_zk_run80(x, xw, y, yw, size, kind, budget, block, length);
+    if (fault("run-zero-loses-its-sign") && number == ZK_FINISHED && zk_block_significand(block) == 0)
+        block[9] = 0;
+    if (fault("run-refusal-writes") && number == ZK_NAN)
+        block[0] = 0;
+    if (fault("run-with-no-budget-gives-a-zero") && number == ZK_SPENT && budget == 0)
+        memset(block, 0, 10);
+    if (fault("run-spent-after-two-steps-finishes") && number == ZK_SPENT && zk_block_steps(block) > 1)
+        return block[10] = ZK_FINISHED;
     if (fault("run-bits-of-the-last-step") && number == ZK_FINISHED && zk_block_steps(block) > 1) {
         /* the bits of the last step alone */
         real_zk_run80(x, xw, y, yw, size, kind, zk_block_steps(block) - 1, before, sizeof before);
@@ -141,6 +206,10 @@ uint8_t zk_scale16(uint16_t x, int32_t power, uint16_t *value, uint8_t *says) {
     uint8_t number = real_zk_scale16(x, power, value, says);
     if (fault("scale16-nothing-left-is-exact") && number == ZK_FINISHED && *says == ZK_DOWN && power < -64)
         *says = ZK_EXACT; /* nothing is left, and said to be exact */
+    if (fault("scale16-nothing-loses-its-sign") && number == ZK_FINISHED && *says == ZK_DOWN && *value == 0x8000)
+        *value = 0;
+    if (fault("scale16-nan-is-infinite") && number == ZK_NAN)
+        return ZK_INFINITE;
     return number;
 }
 
@@ -152,6 +221,8 @@ uint8_t zk_scale32(uint32_t x, int32_t power, uint32_t *value, uint8_t *says) {
     }
     if (fault("scale32-nothing-loses-its-sign") && number == ZK_FINISHED && *says == ZK_DOWN && *value == 0x80000000)
         *value = 0; /* the sign of what is rounded to nothing */
+    if (fault("scale32-nothing-left-is-up") && number == ZK_FINISHED && *says == ZK_DOWN && (*value & 0x7FFFFFFF) == 0)
+        *says = ZK_UP;
     return number;
 }
 
@@ -162,6 +233,10 @@ uint8_t zk_scale64(uint64_t x, int32_t power, uint64_t *value, uint8_t *says) {
     number = real_zk_scale64(x, power, value, says);
     if (fault("scale64-overflow-is-down") && number == ZK_FINISHED && *says == ZK_UP && (*value & ~sign64) == infinity64)
         *says = ZK_DOWN; /* what infinity from a finite value is said to be */
+    if (fault("scale64-cut") && number == ZK_FINISHED && *says == ZK_UP && (*value & ~sign64) != infinity64) {
+        *value -= 1; /* what is below the smallest place is cut */
+        *says = ZK_DOWN;
+    }
     return number;
 }
 
@@ -172,6 +247,16 @@ uint8_t zk_scale80(uint64_t x, uint16_t xw, int32_t power, uint64_t *value, uint
     number = real_zk_scale80(x, xw, power, value, valuew, says);
     if (fault("scale80-refusal-writes") && number == ZK_NAN)
         *valuew = 0x7FFF; /* a refusal writes */
+    if (fault("scale80-nothing-loses-its-sign") && number == ZK_FINISHED && *says == ZK_DOWN && *value == 0)
+        *valuew = 0;
+    if (fault("scale80-overflow-is-down") && number == ZK_FINISHED && *says == ZK_UP && (*valuew & 32767) == 32767)
+        *says = ZK_DOWN;
+    if (fault("scale80-half-of-the-smallest-is-up") && number == ZK_FINISHED && x == 1 && (xw & 32767) == 0 && power == -1) {
+        *value = 1;
+        *says = ZK_UP;
+    }
+    if (fault("scale80-nan-is-unsupported") && number == ZK_NAN)
+        return ZK_UNSUPPORTED;
     return number;
 }
 
@@ -193,13 +278,22 @@ uint8_t zk_split64(uint64_t x, uint64_t *significand, int32_t *exponent) {
     uint8_t number = real_zk_split64(x, significand, exponent);
     if (fault("split64-denormal-exponent-from-its-field") && number == ZK_FINISHED && (x & infinity64) == 0)
         *exponent = -1022; /* a denormal's exponent from its field */
+    if (fault("split64-refusal-writes") && number == ZK_ZERO_SPLIT)
+        *exponent = 0;
     return number;
 }
 
 uint8_t zk_split80(uint64_t x, uint16_t xw, uint64_t *significand, uint16_t *significandw, int32_t *exponent) {
-    uint8_t number = real_zk_split80(x, xw, significand, significandw, exponent);
+    uint8_t number;
+    if (fault("split80-pseudo-denormal-is-a-number") && (xw & 32767) == 0 && x >= sign64)
+        xw++; /* e = 0 with J = 1 is taken as a number */
+    number = real_zk_split80(x, xw, significand, significandw, exponent);
     if (fault("split80-from-a-half-to-1") && number == ZK_FINISHED)
         *exponent += 1, *significandw -= 1; /* as frexp splits, from a half to below 1 */
+    if (fault("split80-loses-its-sign") && number == ZK_FINISHED)
+        *significandw &= 0x7FFF;
+    if (fault("split80-exponent-one-too-low") && number == ZK_FINISHED)
+        *exponent -= 1;
     return number;
 }
 
@@ -215,6 +309,10 @@ uint8_t zk_fold64(const uint64_t *x, size_t nx, uint64_t *results, size_t nr, ui
         nx = nr = nq = nx < nr ? (nx < nq ? nx : nq) : (nr < nq ? nr : nq);
     if (fault("fold-shorter-results-accepted-from-six") && nx > 5 && nr < nx && nq == nx)
         nx = nq = nr;
+    if (fault("fold-divisor-before-length") && (y & ~sign64) == 0)
+        return ZK_ZERO_DIVISOR;
+    if (fault("fold-only-1-is-nearest"))
+        kind = kind == 1;
     number = real_zk_fold64(x, nx, results, nr, quotients, nq, y, kind, marked);
     for (i = 0; number == ZK_FINISHED && i < nx; i++) {
         if (fault("fold-bits-of-the-first-places") && i > 30)
@@ -232,5 +330,13 @@ uint8_t zk_fold64(const uint64_t *x, size_t nx, uint64_t *results, size_t nr, ui
         *marked &= 255;
     if (fault("fold-refusal-writes") && number == ZK_NAN)
         *marked = 0; /* a refusal writes */
+    if (fault("fold-result-behind-the-list") && number == ZK_FINISHED)
+        results[nr] = 0;
+    if (fault("fold-byte-behind-the-list") && number == ZK_FINISHED)
+        quotients[nq] = 0;
+    if (fault("fold-dividend-written") && number == ZK_FINISHED && nx > 0)
+        ((uint64_t *)x)[0] ^= sign64;
+    if (fault("fold-marked-list-is-refused") && number == ZK_FINISHED && *marked > 0)
+        return ZK_NAN;
     return number;
 }

@@ -1,14 +1,21 @@
 #!/bin/sh
 # Each fault that tests/faults.c can make, and the first tests that notice it, in C and in Rust. Fails where neither does, where Rust
 # misses one that a Rust host could see, or where a test complains of no fault.
-# faults.sh FOLDER CARGO    the folder with the C programs; the command that runs the Rust tests; both are linked with the faults
+# faults.sh FOLDER CARGO [FAULT...]    the folder with the C programs; the command that runs the Rust tests; both are linked with the
+# faults; which ones, if not all
 set -eu
 folder=${1:?usage: faults.sh FOLDER CARGO}
 cargo=${2:?usage: faults.sh FOLDER CARGO}
+shift 2
+[ $# -gt 0 ] || set -- $(sed -n 's/.*fault("\([^"]*\)").*/\1/p' tests/faults.c)
 programs='untouched chains fold ldexp libm half fprem'
 comparisons='--test folds --test half --test lists --test published --test readings --test runs --test sequence --test vectors'
-# what a refusal writes into a single lent number stays inside the safe Rust functions; lists of 2^32 places are not for a test in Rust
-c_only='rem64-refusal-writes scale80-refusal-writes fold-refusal-writes fold-lengths-compared-in-32-bits'
+# what a refusal writes into a single lent number stays inside the safe Rust functions, which have no kind but 0 and 1; lists and blocks of
+# 2^32 places are not for a test in Rust
+c_only='rem16-refusal-writes rem64-refusal-writes scale80-refusal-writes split64-refusal-writes fold-refusal-writes
+    rem16-only-1-is-nearest step-only-1-is-nearest run-only-1-is-nearest fold-only-1-is-nearest rem32-other-kinds-write-more
+    step-length-cut-to-32-bits run-length-cut-to-32-bits fold-lengths-compared-in-32-bits'
+c_only=$(echo $c_only)
 
 by_c() {
     for program in $programs; do
@@ -32,7 +39,7 @@ by_rust() {
 [ "$(by_rust none)" = nobody ] || { echo 'a Rust test complains of no fault'; exit 1; }
 faults=0
 missed=0
-for fault in $(sed -n 's/.*fault("\([^"]*\)").*/\1/p' tests/faults.c); do
+for fault do
     faults=$((faults + 1))
     c=$(by_c "$fault") rust=$(by_rust "$fault")
     printf '%-46s C: %-10s Rust: %s\n' "$fault" "$c" "$rust"

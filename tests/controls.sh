@@ -1,0 +1,171 @@
+#!/bin/sh
+# What the programs of tests/ are worth: each comparison that they make, with one difference that it has to notice. The programs are those
+# of the gate, linked with a library that makes the fault of the row (tests/faults.c); without it the same command has to pass.
+# controls.sh FOLDER PROGRAM...    the folder with the programs; those that need a row
+set -eu
+folder=${1:?usage: controls.sh FOLDER PROGRAM...}
+shift
+log=$folder/controls.log
+controls=0 missed=0 passed='' tried=''
+
+# Once for each command: with no fault it passes.
+unaltered() {
+    case $passed in *"<$1>"*) return 0 ;; esac
+    passed="$passed<$1>"
+    FAULT=none "$folder/"$1 > "$log" 2>&1 || { echo "$1: complains of no fault"; missed=$((missed + 1)); }
+}
+
+# A difference is told with status 1, in a line that the row knows; a crash or a missing program is none.
+control() {
+    status=0
+    FAULT=$2 "$folder/"$1 > "$log" 2>&1 || status=$?
+    line=$(grep -m 1 -e "$3" "$log") || line=
+    controls=$((controls + 1))
+    [ $status -eq 1 ] && [ -n "$line" ] || { line="NOT NOTICED (status $status, no '$3')"; missed=$((missed + 1)); }
+    printf '%-14s %-44s %s\n' "$1" "$2" "$line"
+}
+
+# program and arguments | fault, or none where the command alone makes the difference | the line that tells of it
+while IFS='|' read -r command fault line; do
+    fault=${fault# } line=${line# }
+    command=$(echo $command) fault=${fault%% *}
+    [ "$fault" = none ] || unaltered "$command"
+    control "$command" "$fault" "$line"
+    tried="$tried ${command%% *} "
+done << 'ROWS'
+untouched   | rem32-infinite-dividend-before-nan         | ^number of a remainder, binary32
+untouched   | rem64-refusal-writes                       | ^memory after a remainder, binary64
+untouched   | step-size-before-length                    | ^number of a step,
+untouched   | run-size-cut-to-a-byte                     | ^number of a run,
+untouched   | run-budget-0-is-1                          | ^number of a run with no budget
+untouched   | step-refusal-writes                        | ^memory after a step and a run
+untouched   | run-refusal-writes                         | ^memory after a step and a run
+untouched   | rem80-pseudo-denormal-is-a-number          | ^an unsupported dividend
+untouched   | rem80-pseudo-denormal-is-a-number          | ^an unsupported divisor
+untouched   | step-length-cut-to-32-bits                 | ^number of a step with a long block
+untouched   | run-length-cut-to-32-bits                  | ^number of a run with a long block
+untouched   | scale16-nan-is-infinite                    | ^number of a scaling, binary16
+untouched   | scale80-refusal-writes                     | ^memory after a scaling, x87
+untouched   | split32-zero-is-five                       | ^number of a split, binary32
+untouched   | split64-refusal-writes                     | ^memory after a split, binary64
+untouched   | scale80-pseudo-denormal-is-a-number        | ^scaling of an unsupported pattern
+untouched   | split80-pseudo-denormal-is-a-number        | ^split of an unsupported pattern
+untouched   | fold-divisor-before-length                 | ^number of a refused list
+untouched   | fold-refusal-writes                        | ^memory after a refused list
+untouched   | fold-marked-list-is-refused                | ^number of a list,
+untouched   | fold-mark-is-negative                      | ^memory after a list,
+untouched   | fold-marked-list-is-refused                | ^number of a list by infinity
+untouched   | fold-mark-is-negative                      | ^memory after a list by infinity
+untouched   | fold-lengths-compared-in-32-bits           | ^number of a long list of dividends
+untouched   | fold-lengths-compared-in-32-bits           | ^number of a long list of results
+untouched   | fold-lengths-compared-in-32-bits           | ^number of a long list of quotients
+untouched   | fold-lengths-compared-in-32-bits           | ^a refused long list
+untouched   | step-zero-finishes                         | ^number of a written block
+untouched   | step-partial-not-counted                   | ^memory after a written block
+untouched   | step-writes-a-byte-more                    | ^bytes around a block
+untouched   | run-with-no-budget-gives-a-zero            | ^a run with no budget gives the dividend
+untouched   | run-spent-after-two-steps-finishes         | ^number of a run with a budget of 300
+untouched   | run-budget-cut-to-a-byte                   | ^memory after a run with a budget of 300
+untouched   | rem16-only-1-is-nearest                    | ^a kind, binary16
+untouched   | rem32-other-kinds-write-more               | ^memory after a kind, binary32
+untouched   | step-only-1-is-nearest                     | ^a kind of a step
+untouched   | run-only-1-is-nearest                      | ^a kind of a run
+untouched   | fold-only-1-is-nearest                     | ^a kind of a list
+untouched   | fold-dividend-written                      | ^the dividends of a list
+untouched   | scale64-cut                                | ^scaling up, binary64
+untouched   | scale32-nothing-left-is-up                 | ^scaling down, binary32
+untouched   | scale80-half-of-the-smallest-is-up         | ^scaling at a half, x87
+untouched   | split64-denormal-exponent-from-its-field   | ^an exponent, binary64
+untouched   | split64-denormal-exponent-from-its-field   | ^splitting and back, binary64
+chains 2000 | run-zero-loses-its-sign                    | ^run of
+chains 2000 | run-spent-by-its-last-step                 | ^run of
+chains 2000 | run-bits-of-the-last-step                  | ^run of
+chains 2000 | run-a-step-too-many                        | ^run of
+chains 2000 | run-refusal-writes                         | ^run of
+chains 2000 | step-zero-loses-its-sign                   | ^steps of
+chains 2000 | step-end-is-refused                        | ^steps of
+chains 2000 | step-c0-lost                               | ^steps of
+chains 2000 | step-refusal-writes                        | ^steps of
+chains 20   | none                                       | has no pair
+fold 20     | fold-marked-list-is-refused                | the list is refused
+fold 20     | fold-zero-loses-its-sign                   | the list's answer is not
+fold 20     | fold-mark-is-negative                      | the list's answer is not
+fold 20     | fold-bits-of-the-first-places              | the list's answer is not
+fold 20     | fold-count-cut-to-a-byte                   | the count of marked places
+fold 20     | fold-result-behind-the-list                | what lies behind the list
+fold 20     | fold-byte-behind-the-list                  | what lies behind the list
+half 15859  | rem16-denormal-by-infinity-is-zero         | by 7C00 kind 0
+half 15859  | rem16-denormal-by-infinity-is-zero         | by 7C00 kind 1
+half 31744  | rem16-quotient-of-two-bits                 | kind 0
+half 31744  | rem16-quotient-of-two-bits                 | kind 1
+half 31744  | rem16-infinity-by-zero-is-five             | zukemoriha .* number 5
+half 31744  | rem16-refusal-writes                       | by 0000 kind
+fprem 2000  | step-zero-loses-its-sign                   | ^step of
+fprem 2000  | step-zero-finishes                         | ^step of
+fprem 2000  | step-partial-not-counted                   | ^step of
+fprem 2000  | step-end-has-the-divisors-sign             | ^step of .* kind 0
+fprem 2000  | step-end-has-the-divisors-sign             | ^step of .* kind 1
+fprem 2000  | step-end-is-refused                        | ^step of
+fprem 2000  | step-c0-lost                               | ^step of
+fprem 2000  | step-c3-and-c1-exchanged                   | ^step of
+fprem 2000  | step-quotient-of-four-bits                 | ^step of
+fprem 2000  | step-last-not-counted                      | ^step of
+fprem 2000  | step-writes-a-byte-more                    | ^step of
+fprem 2000  | run-zero-loses-its-sign                    | ^run of
+fprem 2000  | run-budget-cut-to-a-byte                   | ^run of
+fprem 2000  | run-bits-of-the-last-step                  | ^run of
+fprem 2000  | rem80-zero-has-the-divisors-sign           | ^remainder of
+fprem 2000  | rem80-far-quotient-of-two-bits             | ^remainder of
+fprem 2000  | step-refusal-told-as-bad-length            | ^refusal of
+fprem 2000  | step-refusal-writes                        | ^refusal of
+fprem 2000  | scale80-nothing-loses-its-sign             | ^scaling of
+fprem 2000  | scale80-overflow-is-down                   | ^scaling of
+fprem 2000  | scale80-nan-is-unsupported                 | ^scaling of
+fprem 2000  | scale80-refusal-writes                     | ^scaling of
+fprem 2000  | split80-loses-its-sign                     | ^splitting of
+fprem 2000  | split80-exponent-one-too-low               | ^splitting of
+fprem 20    | none                                       | has no pair
+libm 2000   | rem64-zero-loses-its-sign                  | ^binary64 .* kind 0
+libm 2000   | rem64-half-always-up                       | ^binary64 .* kind 1
+libm 2000   | rem64-far-quotient-of-two-bits             | ^binary64 .* kind 0
+libm 2000   | rem64-far-quotient-of-two-bits             | ^binary64 .* kind 1
+libm 2000   | rem64-fraction-is-infinite                 | ^binary64 .* by
+libm 2000   | rem64-refusal-writes                       | wrote where it may not
+libm 2000   | rem32-zero-loses-its-sign                  | ^binary32 .* kind 0
+libm 2000   | rem32-zero-loses-its-sign                  | ^binary32 .* kind 1
+libm 2000   | rem32-far-quotient-of-two-bits             | ^binary32 .* kind 0
+libm 2000   | rem32-eight-is-not-folded                  | ^binary32 .* kind 1
+libm 2000   | rem32-infinite-dividend-before-nan         | ^binary32 .* by
+libm 2000   | rem80-zero-has-the-divisors-sign           | ^x87 .* kind 0
+libm 2000   | rem80-zero-has-the-divisors-sign           | ^x87 .* kind 1
+libm 2000   | rem80-far-quotient-of-two-bits             | ^x87 .* kind 0
+libm 2000   | rem80-far-quotient-of-two-bits             | ^x87 .* kind 1
+libm 2000   | rem80-infinite-dividend-before-unsupported | ^x87 .* by
+libm 20     | none                                       | has no pair
+disputed 99 | none                                       | its remainder and remquo differ
+ldexp 2000  | scale16-nothing-loses-its-sign             | ^binary16 .* scaled
+ldexp 2000  | scale16-nothing-left-is-exact              | ^binary16 .* scaled
+ldexp 2000  | scale16-nan-is-infinite                    | ^binary16 .* scaled
+ldexp 2000  | scale32-nothing-loses-its-sign             | ^binary32 .* scaled
+ldexp 2000  | scale32-nothing-left-is-up                 | ^binary32 .* scaled
+ldexp 2000  | scale64-cut                                | ^binary64 .* scaled
+ldexp 2000  | scale64-overflow-is-down                   | ^binary64 .* scaled
+ldexp 2000  | scale80-nothing-loses-its-sign             | ^x87 .* scaled
+ldexp 2000  | scale80-overflow-is-down                   | ^x87 .* scaled
+ldexp 2000  | scale80-refusal-writes                     | ^x87 .* scaled
+ldexp 2000  | split16-denormal-loses-its-sign            | ^binary16 .* split
+ldexp 2000  | split32-zero-is-five                       | ^binary32 .* split
+ldexp 2000  | split64-denormal-exponent-from-its-field   | ^binary64 .* split
+ldexp 2000  | split64-refusal-writes                     | ^binary64 .* split
+ldexp 2000  | split80-loses-its-sign                     | ^x87 .* split
+ldexp 2000  | split80-exponent-one-too-low               | ^x87 .* split
+host        | rem64-last-bit-is-wrong                    | ^C++ host: FAILED
+host        | rem64-quotient-of-one-bit                  | ^C++ host: FAILED
+host        | rem64-fraction-is-infinite                 | ^C++ host: FAILED
+ROWS
+
+for program do
+    case $tried in *" $program "*) ;; *) echo "$program: no control"; missed=$((missed + 1)) ;; esac
+done
+echo "$controls controls, $missed not noticed"
+[ $missed -eq 0 ]
