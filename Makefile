@@ -22,6 +22,12 @@ out = target/c
 # the same programs on a library that can make mistakes
 faults = target/faulty
 linked = $(out)/lib/libzukemoriha.a
+# what the tests by diff look at; tests/altered.sh gives them altered copies
+header = include/zukemoriha.h
+stored = examples
+pages = .
+placed = $(out)/prefix
+pc = zukemoriha.pc.in
 
 exports = export_remainder export_steps export_scaling export_fold
 programs = host untouched chains fold half fprem libm ldexp
@@ -32,7 +38,7 @@ cflags = -std=c99 -O2 $(warnings) -Iinclude
 unbuilt = $(foreach n,fmod remainder remquo ldexp frexp,-fno-builtin-$(n) -fno-builtin-$(n)f -fno-builtin-$(n)l)
 parallel = $(MAKE) --no-print-directory -j$$(nproc) --output-sync=target
 headers = tests/calls.h tests/operands.h include/zukemoriha.h
-exported = sed -n 's/^[a-z0-9_]* \(zk_[a-z0-9_]*\)(.*/\1/p' include/zukemoriha.h
+exported = sed -n 's/^[a-z0-9_]* \(zk_[a-z0-9_]*\)(.*/\1/p' $(header)
 # Run in rust/: nothing comes from a registry, and no setting of the caller's. The crate looks for the archive from its own folder.
 unset = MAKEFLAGS MFLAGS CARGO_MAKEFLAGS RUSTFLAGS CARGO_ENCODED_RUSTFLAGS CARGO_BUILD_RUSTFLAGS CARGO_BUILD_TARGET \
     CARGO_TARGET_X86_64_UNKNOWN_LINUX_GNU_RUNNER CARGO_TARGET_X86_64_UNKNOWN_LINUX_GNU_RUSTFLAGS
@@ -62,7 +68,7 @@ check: tools ## what has changed is proved, then the tests (minutes)
 	$(parallel) tests
 	@echo 'every crate proved, every test passed'
 
-tests: header documents examples install-check rust $(addprefix test-,$(programs)) controls ## the tests alone, on the archive of what is proved
+tests: header documents examples install-check rust $(addprefix test-,$(programs)) controls altered ## the tests alone, on the archive of what is proved
 
 check-long: peers long-half $(addprefix long-,chains fprem libm ldexp libm-musl ldexp-musl mpfr) ## ten million cases a format, musl, MPFR, all pairs of binary16 (an hour; cases=N seed=N for others)
 
@@ -82,7 +88,7 @@ install: $(LIB) ## to prefix (/usr/local), libdir, includedir, below DESTDIR
 	$(INSTALL) -m 644 $(LIB) $(DESTDIR)$(libdir)/libzukemoriha.a
 	$(INSTALL) -m 644 include/zukemoriha.h $(DESTDIR)$(includedir)/zukemoriha.h
 	sed 's|@prefix@|$(abspath $(prefix))|; s|@libdir@|$(abspath $(libdir))|; s|@includedir@|$(abspath $(includedir))|; s|@version@|$(version)|' \
-	    zukemoriha.pc.in > $(DESTDIR)$(pkgconfigdir)/zukemoriha.pc
+	    $(pc) > $(DESTDIR)$(pkgconfigdir)/zukemoriha.pc
 	chmod 644 $(DESTDIR)$(pkgconfigdir)/zukemoriha.pc
 
 uninstall: ## what install has put there
@@ -137,27 +143,26 @@ always:
 
 # it compiles, and names what the archive exports, no more and no less
 header: $(linked)
-	echo '#include "zukemoriha.h"' | $(CC) -std=c99 $(warnings) -Werror -Iinclude -fsyntax-only -x c -
-	echo '#include "zukemoriha.h"' | $(CXX) $(warnings) -Werror -Iinclude -fsyntax-only -x c++ -
-	$(exported) | sort > $(out)/declared
-	nm -g --defined-only $(linked) | awk 'NF == 3 { print $$3 }' | sort | diff $(out)/declared -
+	echo '#include "$(notdir $(header))"' | $(CC) -std=c99 $(warnings) -Werror -I$(dir $(header)) -fsyntax-only -x c -
+	echo '#include "$(notdir $(header))"' | $(CXX) $(warnings) -Werror -I$(dir $(header)) -fsyntax-only -x c++ -
+	nm -g --defined-only $(linked) | awk 'NF == 3 { print $$3 }' | sort | diff <($(exported) | sort) -
 
 $(out)/%: examples/%.c include/zukemoriha.h $(linked)
 	$(CC) $(cflags) $< $(linked) -o $@
 
 examples: $(out)/fold_angle $(out)/step80
-	$(out)/fold_angle | diff examples/fold_angle.out -
-	$(out)/step80 | diff examples/step80.out -
+	$(out)/fold_angle | diff $(stored)/fold_angle.out -
+	$(out)/step80 | diff $(stored)/step80.out -
 
-here = prefix=$(out)/prefix libdir=$(out)/prefix/lib includedir=$(out)/prefix/include pkgconfigdir=$(out)/prefix/lib/pkgconfig DESTDIR=
+here = prefix=$(placed) libdir=$(placed)/lib includedir=$(placed)/include pkgconfigdir=$(placed)/lib/pkgconfig DESTDIR=
 
 install-check: $(linked)
 	$(MAKE) --no-print-directory install $(here) LIB=$(LIB)
-	export PKG_CONFIG_PATH=$(out)/prefix/lib/pkgconfig; \
+	export PKG_CONFIG_PATH=$(placed)/lib/pkgconfig; \
 	$(CC) -std=c99 $(warnings) examples/fold_angle.c $$(pkg-config --cflags --libs zukemoriha) -o $(out)/installed
-	$(out)/installed | diff examples/fold_angle.out -
+	$(out)/installed | diff $(stored)/fold_angle.out -
 	$(MAKE) --no-print-directory uninstall $(here)
-	test -z "$$(find $(out)/prefix -type f)"
+	! find $(placed) -type f | grep .
 
 # the tests run the line program; rt builds it again if it has changed, and nothing else here calls rt once there is an archive
 rust: $(linked)
@@ -167,7 +172,7 @@ rust: $(linked)
 
 # the impostors that PROOF.md lists are those that there are, and the files that the documents name exist
 documents:
-	sh tests/documents.sh
+	sh tests/documents.sh $(pages)
 
 # objects, linked here with the archive and below with the faults
 link = $(if $(filter host,$*),$(CXX),$(CC))
@@ -208,7 +213,7 @@ long-half: $(out)/half
 
 # ---- faults: the exports renamed, and functions of the same names before them that make one mistake
 
-.PHONY: controls
+.PHONY: controls altered
 
 $(faults)/lib/libzukemoriha.a: tests/faults.c include/zukemoriha.h $(linked)
 	mkdir -p $(@D)
@@ -227,6 +232,10 @@ $(faults)/disputed: $(out)/libm.o $(faults)/lib/libzukemoriha.a
 
 controls: $(addprefix $(faults)/,$(programs) disputed)
 	sh tests/controls.sh $(faults) $(programs)
+
+# the tests by diff on altered copies, once they have passed on what there is
+altered: header documents examples install-check
+	MAKE='$(MAKE) --no-print-directory' sh tests/altered.sh $(out)/altered
 
 # ---- measurements
 

@@ -2,7 +2,9 @@
 # What the documents name is there, and the crate's version is the header's: every edit in the list of its crate in docs/PROOF.md and no
 # other, every crate in docs/ARCHITECTURE.md and docs/GATE.md, every file that a link or a path below crates/, rust/, tests/, vectors/ or docs/ speaks of,
 # and every sentence of docs/SCOPE.md that a comment or a page points at.
+# documents.sh [FOLDER]    the repository's, or a copy's
 set -eu
+cd "${1:-.}"
 wrong=0
 say() { echo "$*"; wrong=1; }
 
@@ -33,8 +35,9 @@ for page in README.md docs/*.md rust/zukemoriha/README.md vectors/README.md; do
     done
 done
 numbered=$(awk '/^## [0-9]/ { section = $2 + 0 } /^[0-9]+[.] / { print section "." ($1 + 0) }' docs/SCOPE.md)
-for sentence in $(grep -rhoE '\[[0-9]+[.][0-9]+[^]]*\]' crates/*/specs crates/*/proofs crates/*/src docs/PROOF.md | grep -oE '[0-9]+[.][0-9]+' | sort -u); do
-    echo "$numbered" | grep -qx "$sentence" || say "docs/SCOPE.md has no sentence $sentence"
+for sentence in $(grep -rhoE '\[[0-9]+[.][0-9]+[^]]*\]' crates/*/specs crates/*/proofs crates/*/src docs/PROOF.md | grep -oE '[0-9]+[.][0-9]+' | sort -u |
+    grep -vxF "$numbered"); do
+    say "docs/SCOPE.md has no sentence $sentence"
 done
 [ "$(sed -n 's/^version = //p' rust/zukemoriha/Cargo.toml)" = "$(sed -n 's/^#define ZK_VERSION //p' include/zukemoriha.h)" ] ||
     say 'the Rust crate and the header are of different versions'
