@@ -1,53 +1,12 @@
 //! What the comparisons are worth: each of them, on a library that is wrong in one answer, and on a
 //! file that is wrong in one field, has to notice it. The differences that this prints are wanted.
 
+mod altered;
+
+use altered::{altered_text, shortened, Altered, Change, CHANGES};
 use compare::*;
-use std::sync::atomic::{AtomicI64, Ordering};
 use zukemoriha::Answer::{Finished, Partial};
 use zukemoriha::Refusal::{BadSize, ZeroDivisor};
-
-type Change<T> = fn(&mut T);
-
-/// The library, with one of its finished answers, or one of its lists with a mark, changed.
-struct Altered {
-    /// How many of them come before that one.
-    left: AtomicI64,
-    answer: Change<Answer>,
-    list: Change<Result<Folded, u8>>,
-}
-
-impl Altered {
-    fn new(answer: Change<Answer>, list: Change<Result<Folded, u8>>) -> Altered {
-        let left = AtomicI64::new(5);
-        Altered { left, answer, list }
-    }
-
-    fn is_the_one(&self) -> bool {
-        self.left.fetch_sub(1, Ordering::Relaxed) == 0
-    }
-}
-
-impl Implementation for Altered {
-    fn name(&self) -> &'static str {
-        "altered"
-    }
-
-    fn answer(&self, call: &Call) -> Answer {
-        let mut answer = Library.answer(call);
-        if answer.number == 0 && self.is_the_one() {
-            (self.answer)(&mut answer);
-        }
-        answer
-    }
-
-    fn fold(&self, kind: Kind, dividends: &[u64], divisor: u64) -> Result<Folded, u8> {
-        let mut list = Library.fold(kind, dividends, divisor);
-        if matches!(&list, Ok(folded) if folded.marked > 0) && self.is_the_one() {
-            (self.list)(&mut list);
-        }
-        list
-    }
-}
 
 /// The library, with a size that is refused told as a NaN. The sums of a list do not show it.
 struct Misnumbered;
@@ -93,16 +52,8 @@ const FILES: [&str; 7] = [
 
 #[test]
 fn one_wrong_answer_is_noticed() {
-    let changes: [(&str, Change<Answer>); 6] = [
-        ("a bit of the value", |answer| answer.value ^= 1),
-        ("the number", |answer| answer.number = 5),
-        ("the quotient", |answer| answer.quotient ^= 4),
-        ("the steps", |answer| answer.steps += 1),
-        ("what it says", |answer| answer.says ^= 2),
-        ("the exponent", |answer| answer.exponent -= 1),
-    ];
-    for (what, change) in changes {
-        let altered = || Altered::new(change, |_| ());
+    for (what, change) in CHANGES {
+        let altered = || Altered::answer(change);
         for path in FILES {
             let different = in_file([&altered(), &Second], path, &read(path));
             assert!(different > 0, "{what}, {path}");
@@ -135,23 +86,18 @@ fn one_wrong_list_is_noticed() {
     ];
     let text = read("computed/fold-binary64.txt");
     for (what, change) in changes {
-        let altered = Altered::new(|_| (), change);
+        let altered = Altered::list(change, 5);
         let different = folds::compare([&altered, &Second], &text).different;
         assert!(different > 0, "{what}");
-        let altered = Altered::new(|_| (), change);
+        let altered = Altered::list(change, 5);
         let different = folds::generated([&altered, &Second], 100).0.different;
         assert!(different > 0, "{what}, generated");
+        for left in 0..2 {
+            let altered = Altered::list(change, left);
+            let (_, different, _) = folds::long([&altered, &Second], 100);
+            assert!(different > 0, "{what}, long list {left}");
+        }
     }
-}
-
-/// A text with the last character of one field changed.
-fn altered_text(text: &str, line: usize, field: usize) -> String {
-    let mut lines: Vec<String> = text.lines().map(String::from).collect();
-    let mut words: Vec<String> = lines[line].split(' ').map(String::from).collect();
-    let last = words[field].pop();
-    words[field].push(if last == Some('0') { '1' } else { '0' });
-    lines[line] = words.join(" ");
-    lines.join("\n")
 }
 
 #[test]
@@ -172,6 +118,50 @@ fn one_wrong_field_of_a_file_is_noticed() {
             let text = altered_text(&read(path), line, field);
             assert!(in_file(PAIR, path, &text) > 0, "{path}, field {field}");
         }
+    }
+}
+
+/// The counts that the tests pin are those of the cases: one less is another count.
+#[test]
+fn a_missing_case_is_noticed() {
+    for (path, lines) in [
+        ("computed/rem-x87.txt", 1),
+        ("computed/list-x87.txt", 1),
+        ("computed/fold-binary64.txt", 2),
+        ("published/published-ruby.txt", 1),
+    ] {
+        let name = path.rsplit('/').next().unwrap();
+        let text = read(path);
+        let [all, less] = [text.clone(), shortened(&text, lines)].map(|text| match name {
+            "list-x87.txt" => lists::compare(PAIR, &text).0.lines,
+            "fold-binary64.txt" => folds::compare(PAIR, &text).lines,
+            "published-ruby.txt" => published::compare(PAIR, &text, "").0.lines,
+            _ => vectors::compare(PAIR, name, &text).lines,
+        });
+        assert_eq!(less + lines as u64, all, "{path}");
+    }
+    let [less, all] = [99, 100].map(|pairs| sequence::compare(PAIR, pairs));
+    assert_ne!(less.0.answers, all.0.answers, "sequence");
+    assert_ne!(less.1, all.1, "cells of the sequence");
+    let [less, all] = [99, 100].map(|lists| folds::generated(PAIR, lists).0.answers);
+    assert_ne!(less, all, "generated lists");
+    let [less, all] = [99, 100].map(|places| folds::long(PAIR, places));
+    assert_ne!((less.0, less.2), (all.0, all.2), "long lists");
+    let [less, all] = [1, 2].map(|n| half::compare(PAIR, &[1, 2][..n], &|_| ()).answers);
+    assert_ne!(less, all, "half");
+}
+
+/// The cells of the sequence count what is answered, so that where both are wrong alike these are
+/// others than those in sequence.txt.
+#[test]
+fn a_wrong_cell_is_noticed() {
+    let (_, right) = sequence::compare(PAIR, 100);
+    let changes: [Change<Answer>; 2] = [|answer| answer.number = 5, |answer| answer.says ^= 2];
+    for change in changes {
+        let both = [Altered::answer(change), Altered::answer(change)];
+        let (comparison, wrong) = sequence::compare([&both[0], &both[1]], 100);
+        assert_eq!(comparison.different, 0);
+        assert_ne!(wrong, right);
     }
 }
 

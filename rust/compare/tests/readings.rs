@@ -1,7 +1,11 @@
 //! The readings: twelve worked examples that came with the definitions, through both
 //! implementations. They are in the layout of the vectors.
 
-use compare::{vectors, PAIR};
+mod altered;
+
+use altered::{altered_text, shortened, Altered, CHANGES};
+use compare::{vectors, Pair, Second, PAIR};
+use std::ops::Range;
 
 /// 1 to 6: 5.5, 5 and 7 by 2, -6 by 3, 2^75 by 2^-75, two by three of the smallest denormal.
 const REMAINDERS: &str = "\
@@ -48,16 +52,52 @@ const SCALINGS: &str = "\
 3F800000 128 7F800000 0 1
 ";
 
+/// The tables, as files of vectors, and which fields of a row are expected.
+const TABLES: [(&str, &str, Range<usize>); 4] = [
+    ("rem-binary32.txt", REMAINDERS, 2..7),
+    ("step-x87.txt", STEPS, 4..8),
+    ("run-x87.txt", RUNS, 5..9),
+    ("scale-binary32.txt", SCALINGS, 2..5),
+];
+
+/// How many answers a table has, and how many of them are different.
+fn compare_table(pair: Pair, name: &str, rows: &str) -> (u64, u64) {
+    let comparison = vectors::compare(pair, name, rows);
+    (comparison.answers, comparison.different)
+}
+
 #[test]
 fn readings_are_as_printed() {
-    let compared = [
-        vectors::compare(PAIR, "rem-binary32.txt", REMAINDERS),
-        vectors::compare(PAIR, "step-x87.txt", STEPS),
-        vectors::compare(PAIR, "run-x87.txt", RUNS),
-        vectors::compare(PAIR, "scale-binary32.txt", SCALINGS),
-    ];
-    let answers: u64 = compared.iter().map(|readings| readings.answers).sum();
-    let different: u64 = compared.iter().map(|readings| readings.different).sum();
+    let compared = TABLES.map(|(name, rows, _)| compare_table(PAIR, name, rows));
+    let answers: u64 = compared.iter().map(|(answers, _)| answers).sum();
+    let different: u64 = compared.iter().map(|(_, different)| different).sum();
     println!("readings 1 to 12: {answers} answers, {different} different");
     assert_eq!((answers, different), (32, 0));
+}
+
+/// The differences that this prints are wanted.
+#[test]
+fn a_wrong_or_missing_row_is_noticed() {
+    for (name, rows, fields) in TABLES {
+        for row in 0..rows.lines().count() {
+            for field in fields.clone() {
+                let (_, different) = compare_table(PAIR, name, &altered_text(rows, row, field));
+                assert!(different > 0, "{name}, row {row}, field {field}");
+            }
+        }
+        let [all, less] = [0, 1].map(|lines| compare_table(PAIR, name, &shortened(rows, lines)).0);
+        assert!(less < all, "{name}, a row less");
+    }
+}
+
+/// A table of four rows has no sixth answer, but twice the table has.
+#[test]
+fn a_wrong_answer_is_noticed() {
+    for (name, rows, _) in TABLES {
+        for (what, change) in CHANGES {
+            let altered = Altered::answer(change);
+            let (_, different) = compare_table([&altered, &Second], name, &rows.repeat(2));
+            assert_eq!(different, 1, "{name}, {what}");
+        }
+    }
 }

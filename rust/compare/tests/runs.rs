@@ -1,6 +1,9 @@
 //! Runs that the generated sequence does not draw: spent with quotient bits, and the longest ones.
 
-use compare::{Call, Comparison, Kind, PAIR};
+mod altered;
+
+use altered::{Altered, CHANGES};
+use compare::{Call, Comparison, Kind, Pair, Second, PAIR};
 
 const LENGTH: usize = 16;
 const SPENT: u8 = 7;
@@ -15,10 +18,10 @@ fn whole(n: u64) -> u128 {
     u128::from(16383 + 63 - zeros) << 64 | u128::from(n << zeros)
 }
 
-/// A part has low bits where D - n is 1 or 2, so that runs that are spent there tell some.
-#[test]
-fn spent_runs_tell_their_bits() {
-    let mut comparison = Comparison::new(PAIR);
+/// A part has low bits where D - n is 1 or 2, so that runs that are spent there tell some. Returns
+/// also how many did after two or more steps.
+fn spent_runs(pair: Pair) -> (Comparison, u32) {
+    let mut comparison = Comparison::new(pair);
     let mut with_bits = 0;
     for exponent in 64..200 {
         for divisor in (3..64).step_by(2) {
@@ -33,6 +36,12 @@ fn spent_runs_tell_their_bits() {
             }
         }
     }
+    (comparison, with_bits)
+}
+
+#[test]
+fn spent_runs_tell_their_bits() {
+    let (comparison, with_bits) = spent_runs(PAIR);
     println!(
         "{} runs, {with_bits} spent with bits after two or more steps",
         comparison.answers
@@ -42,10 +51,10 @@ fn spent_runs_tell_their_bits() {
 }
 
 /// The largest gaps, with as many steps as they allow: every budget around the last step, and any
-/// 32 bits.
-#[test]
-fn the_longest_runs() {
-    let mut comparison = Comparison::new(PAIR);
+/// 32 bits. Returns also how many took other steps than they should.
+fn longest_runs(pair: Pair) -> (Comparison, u32) {
+    let mut comparison = Comparison::new(pair);
+    let mut astray = 0;
     let largest = 0x7FFE << 64 | u128::from(u64::MAX);
     let other = 0x7FFE_8001_8001_8001_8001;
     for (x, y, steps) in [(largest, 25, 1025), (other, 0xFFFF, 1025)] {
@@ -64,9 +73,41 @@ fn the_longest_runs() {
             ] {
                 let call = Call::Run(kind, 32, budget, x, y, LENGTH);
                 let told = comparison.call(&call, None);
-                assert_eq!(told.steps, budget.min(steps), "{call:X?}");
+                if told.steps != budget.min(steps) {
+                    println!("{} steps: {call:X?}", told.steps);
+                    astray += 1;
+                }
             }
         }
     }
-    assert_eq!((comparison.answers, comparison.different), (40, 0));
+    (comparison, astray)
+}
+
+#[test]
+fn the_longest_runs_take_their_steps() {
+    let (comparison, astray) = longest_runs(PAIR);
+    assert_eq!(
+        (comparison.answers, comparison.different, astray),
+        (40, 0, 0)
+    );
+}
+
+/// The differences that this prints are wanted.
+#[test]
+fn a_wrong_run_is_noticed() {
+    for (what, change) in CHANGES {
+        for compare_runs in [spent_runs, longest_runs] {
+            let altered = Altered::answer(change);
+            let (comparison, _) = compare_runs([&altered, &Second]);
+            assert_eq!(comparison.different, 1, "{what}");
+        }
+    }
+}
+
+/// Also where both are wrong alike.
+#[test]
+fn a_wrong_count_of_steps_is_noticed() {
+    let both = [(); 2].map(|_| Altered::answer(|answer| answer.steps += 1));
+    let (comparison, astray) = longest_runs([&both[0], &both[1]]);
+    assert_eq!((comparison.different, astray), (0, 1));
 }
