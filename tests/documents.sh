@@ -27,11 +27,13 @@ for crate in $(ls crates); do
 done
 
 for page in README.md docs/*.md rust/zukemoriha/README.md vectors/README.md; do
+    folder=$(dirname "$page")
     for link in $(grep -o '](\([^)#]*\)' "$page" | sed 's/](//' | grep -v '^$' | sort -u); do
-        [ -e "$(dirname "$page")/$link" ] || say "$page: no $link"
+        [ -e "$folder/$link" ] || say "$page: no $link"
     done
     for path in $(grep -oE '`(crates|rust|tests|vectors|docs|bench|examples|include)/[A-Za-z0-9_./*-]*`' "$page" | tr -d '`' | sort -u); do
-        ls -d $path > /dev/null 2>&1 || say "$page: no $path"
+        set -- $path # a path may have a star
+        [ -e "$1" ] || say "$page: no $path"
     done
 done
 numbered=$(awk '/^## [0-9]/ { section = $2 + 0 } /^[0-9]+[.] / { print section "." ($1 + 0) }' docs/SCOPE.md)
