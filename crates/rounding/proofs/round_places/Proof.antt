@@ -1,12 +1,14 @@
 -- `round_places` meets its contract: past 64 places and at 64 all of n is left over, and below 64 one division tells.
 -- Assumes nothing.
-use mathlib.Core.Path.{_≡_, sym, _∙_}
-use Prim.Native.Nat.{_*_, _%_, _^_, _<_}
+use mathlib.Core.Path.{_≡_, sym, ap, _∙_}
+use Prim.Native.Nat.{ℕ, _*_, _/_, _%_, _^_, _<_}
 use native.Mathlib.Nat.{one-mul, lt-of-lt-of-le, mod-lt, mod-eq-of-lt}
 use native.Mathlib.Omega.{arith}
 use borrow.Author.Tests.{le-ltb}
 use lib.Pow.{pow-pos, pow-lt, pow-mono}
+use lib.Dec.{ltb}
 use Rattle.digits.proofs.Common.{ltb-scale}
+use Rattle.rounding.specs.Round.{roundedOf}
 use Rattle.rounding.proofs.TiesToEven.{round-rounded, round-whole, round-room}
 use borrow.Author.Needs.{needs}
 use Rattle.rounding.proofs.round_places.Statement.{statement}
@@ -55,10 +57,13 @@ add-rounded c = rw (power c) (omega (arith, left-over c))
 rounded-requires-3 : tie.Need-rounded-requires-3
 rounded-requires-3 c κs = rw (power c) (λ h. omega (arith, round-room (c .before .before .args .n) (c .before .before .args .places) h))
 
+-- what is compared with the power is found, however the code writes it: what is refused is a wrong one
 returns-3 : tie.Need-returns-3
 returns-3 c =
     let a = c .before .before .before .args in
-    c .rounded3 .ensures ∙ rw (power (c .before)) (sym (round-rounded (a .n) (a .places)))
+    let p = 2 ^ a .places in
+    c .rounded3 .ensures
+    ∙ rw (power (c .before)) (ap (λ (t : ℕ). roundedOf (a .n / p) (a .n % p) (ltb p t)) (omega (arith, left-over (c .before))) ∙ sym (round-rounded (a .n) (a .places)))
 
 pub round-places-spec : {M : Type 1} → statement M
 round-places-spec =

@@ -46,6 +46,7 @@ returns c =
     let w = low-written (formatOf h) (s .pre .0 .regular) (valueIn (h .smallest) (s .args .value) .count) (held s) l in
     rw t (refl, w .field, w .rest, w .is)
 
+-- the field is found, however the code writes it: what is refused is a wrong one
 returns-2 : tie.Need-returns-2
 returns-2 c =
     let p = c .before .before .before .before .before in
@@ -54,7 +55,7 @@ returns-2 c =
     let t = p .before .trim .ensures in
     let l = rw (t, p .leading-weight .ensures) at (c .before .before .before .if1 .left) in
     let w = high-written (formatOf h) (s .pre .0 .regular) (valueIn (h .smallest) (s .args .value) .count) (held s) l in
-    rw (t, c .before .hidden-part .ensures) (refl, w .field, w .rest, w .is)
+    rw (t, c .before .hidden-part .ensures) (refl, omega (arith, w .field), w .rest, omega (arith, w .is))
 
 pub value-fields-spec : {M : Type 1} → statement M
 value-fields-spec = tie.close (tie.spec trim-requires leading-weight-requires cast-t8 add-t9 hidden-part-requires sub-t11 returns returns-2)
