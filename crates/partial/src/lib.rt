@@ -11,12 +11,11 @@ use pairs::finish_pair;
 use pairs::gap;
 use pairs::settle;
 ghost use mathlib.Core.Path.{_≡_};
-ghost use mathlib.Core.Bool.{true, false};
-ghost use Prim.Native.Nat.{_*_, _%_, _-_, _^_};
-ghost use lib.IntN.{pos, natAbs, _-ℤ_};
-ghost use lib.Signed.{ltZ};
+ghost use mathlib.Core.Bool.{true};
+ghost use Prim.Native.Nat.{_*_, _%_, _-_, _^_, _≤_};
+ghost use lib.IntN.{pos, _-ℤ_};
 ghost use Rattle.definitions.specs.Format.{x87};
-ghost use Rattle.definitions.specs.Steps.{cutAt, stepBy, step, usedSize};
+ghost use Rattle.definitions.specs.Steps.{cutAt, stepBy, step};
 ghost use Rattle.operands.specs.Operand.{valueIn, valueOperand, divisorIn};
 ghost use Rattle.operands.specs.declared.Operand.the-variants.{Finite};
 ghost use Rattle.packing.specs.Stands.{StandsValue, StandsDivisor};
@@ -40,10 +39,10 @@ fn shifted(quotient: u32, places: u32) -> u32
     ((quotient as u64) * power_of_two(places) % 4294967296) as u32
 }
 
-// A partial step: `size` places of the quotient are taken, and both kinds cut.
-fn cut_pair(x: Unpacked, y: Unpacked, size: u32, d: i32) -> Left
-    requires { ⌜ StandsValue x87 (Finite x) × StandsValue x87 (Finite y) × (sized size ≡ true) × (d ≡ x .exponent -ℤ y .exponent) × (ltZ d (pos 64) ≡ false) ⌝ }
-    ensures { λ r. ⌜ r ≡ leftOf (x87 .smallest) (cutAt (natAbs d - usedSize d size) (valueIn (x87 .smallest) y .count) (valueIn (x87 .smallest) x)) ⌝ }
+// A partial step: of the quotient's `places` the first `size` are taken, and both kinds cut.
+fn cut_pair(x: Unpacked, y: Unpacked, size: u32, places: u32) -> Left
+    requires { ⌜ StandsValue x87 (Finite x) × StandsValue x87 (Finite y) × (size ≤ places) × (pos places ≡ x .exponent -ℤ y .exponent) ⌝ }
+    ensures { λ r. ⌜ r ≡ leftOf (x87 .smallest) (cutAt (places - size) (valueIn (x87 .smallest) y .count) (valueIn (x87 .smallest) x)) ⌝ }
 {
     let divided = divide(x.significand, y.significand, size);
     let left = settle(
@@ -56,7 +55,7 @@ fn cut_pair(x: Unpacked, y: Unpacked, size: u32, d: i32) -> Left
     let value = left.value;
     Left {
         value,
-        quotient: shifted(left.quotient, (d as u32) - size),
+        quotient: shifted(left.quotient, places - size),
     }
 }
 
@@ -71,9 +70,10 @@ fn step_pair(kind: Kind, x: Unpacked, y: Unpacked, size: u32) -> Stepped
             left: finish_pair(kind, x, y, d),
         }
     } else {
+        let places = d as u32;
         Stepped {
             done: false,
-            left: cut_pair(x, y, size, d),
+            left: cut_pair(x, y, size, places),
         }
     }
 }

@@ -1,15 +1,13 @@
 -- `cut_pair` meets its contract: the division to `size` places, settled in the place that is left. Assumes nothing.
-use mathlib.Core.Path.{_≡_, ap, _∙_}
-use Prim.Native.Nat.{_-_, _*_, _%_, _^_, _≤_}
+use mathlib.Core.Path.{_≡_, refl, ap, _∙_}
+use Prim.Native.Nat.{_-_, _*_, _%_, _^_, _<_}
 use native.Mathlib.Nat.{lt-of-lt-of-le, mod-lt}
 use native.Mathlib.Omega.{arith}
-use lib.IntN.{pos, natAbs, _-ℤ_}
+use lib.IntN.{pos, _-ℤ_}
 use lib.Pow.{pow-pos}
-use lib.Signed.{natAbs-le}
 use mir.Syntax.{w32}
 use mir.Val.{toZ, ofZ}
-use mir.ValLaws.{toZ-ofZ, toZ-pos}
-use Rattle.chains.proofs.Step.{sized-bounds}
+use mir.ValLaws.{toZ-pos}
 use Rattle.digits.proofs.Signed.{small-back, sub-fits, sub-is, mag-sub}
 use Rattle.definitions.specs.Format.{x87}
 use Rattle.definitions.specs.declared.Kind.the-variants.{Truncated}
@@ -17,10 +15,10 @@ use Rattle.division.specs.Divided.{dividedOf}
 use Rattle.operands.specs.Operand.{Ready}
 use Rattle.shapes.proofs.Sounds.{sound80}
 use Rattle.packing.proofs.Standing.{ready}
-use Rattle.pairs.proofs.TwoOperands.{not-negative}
+use Rattle.pairs.proofs.TwoOperands.{gap-small}
 use Rattle.pairs.specs.Pair.{settledOf}
 use Rattle.pairs.specs.declared.Left.{Left}
-use Rattle.partial.proofs.Pairs.{at-least, cut-pair-is}
+use Rattle.partial.proofs.Pairs.{cut-pair-is}
 use borrow.Author.Needs.{needs}
 use Rattle.partial.proofs.cut_pair.Statement.{statement}
 use Rattle.partial.proofs.cut_pair.Tie as tie
@@ -32,8 +30,9 @@ module _ (s : tie.Start) where
   y-ready : Ready (s .args .y)
   y-ready = ready x87 sound80 (s .args .y) (s .pre .1)
 
-  small : s .args .size ≤ 63
-  small = sized-bounds (s .args .size) (s .pre .2) .1
+  -- the gap, and so what is taken of it, is small
+  small : s .args .size < 2 ^ 19
+  small = let g = rw (← s .pre .3) at (gap-small (s .args .x) (s .args .y) x-ready y-ready) in omega (arith, s .pre .2)
 
   exponent-back : toZ w32 (ofZ w32 (s .args .x .exponent)) ≡ s .args .x .exponent
   exponent-back = small-back (s .args .x .exponent) (omega (arith, x-ready .small))
@@ -44,12 +43,6 @@ module _ (s : tie.Start) where
   -- the exponent of what is left
   lower : toZ w32 (ofZ w32 (toZ w32 (ofZ w32 (s .args .x .exponent)) -ℤ toZ w32 (s .args .size))) ≡ s .args .x .exponent -ℤ pos (s .args .size)
   lower = sub-is (s .args .x .exponent) (pos (s .args .size)) _ _ exponent-back size-back (omega (arith, x-ready .small)) (omega (arith, small))
-
-  gap-back : toZ w32 (ofZ w32 (s .args .d)) ≡ s .args .d
-  gap-back = toZ-ofZ w32 (s .args .d) (s .fits .d)
-
-  places : 64 ≤ natAbs (s .args .d)
-  places = at-least (s .args .x) (s .args .y) (s .pre .0) (s .pre .1) (s .args .d) (s .pre .3) (s .pre .4)
 
 divide-requires : tie.Need-divide-requires
 divide-requires c κs = lt-of-lt-of-le (pow-pos 63) (y-ready c .top)
@@ -69,11 +62,8 @@ settle-requires c κs =
       rw (lower s) (omega (arith, mag-sub (s .args .x .exponent) (pos (s .args .size)), x-ready s .small, small s)),
     )
 
-cast-shifted : tie.Need-cast-shifted
-cast-shifted c = let s = c .before .before .before .before in rw (gap-back s) (not-negative 64 (s .args .d) (s .pre .4), record { fits = omega (arith, natAbs-le (s .args .d) {H = 2 ^ 31} (s .fits .d .sfits)) })
-
 sub-shifted : tie.Need-sub-shifted
-sub-shifted c = let s = c .before .before .before .before in rw (gap-back s) (omega (arith, places s, small s))
+sub-shifted c = search needs
 
 shifted-requires : tie.Need-shifted-requires
 shifted-requires c κs = search needs
@@ -84,11 +74,11 @@ returns c =
     let e = v .before .before .before in
     let s = e .before in
     let a = s .args in
-    let part : c .shifted .result ≡ v .settle .result .quotient * 2 ^ (natAbs (a .d) - a .size) % 2 ^ 32 = rw (gap-back s) at (c .shifted .ensures) in
+    let part : c .shifted .result ≡ v .settle .result .quotient * 2 ^ (a .places - a .size) % 2 ^ 32 = c .shifted .ensures in
     let left : v .settle .result ≡ settledOf Truncated (a .x .negative) (dividedOf (a .x .significand) (a .y .significand) (a .size)) (a .y .significand) (a .x .exponent -ℤ pos (a .size)) =
     v .settle .ensures ∙ (λ i. settledOf Truncated (a .x .negative) (e .divide .ensures i) (a .y .significand) (lower s i)) in
-    (λ i. record { value = left i .value; quotient = (part ∙ ap (λ (l : Left). l .quotient * 2 ^ (natAbs (a .d) - a .size) % 2 ^ 32) left) i })
-    ∙ cut-pair-is (a .x) (a .y) (s .pre .0) (s .pre .1) (a .d) (s .pre .3) (s .pre .4) (a .size) (s .pre .2)
+    (λ i. record { value = left i .value; quotient = (part ∙ ap (λ (l : Left). l .quotient * 2 ^ (a .places - a .size) % 2 ^ 32) left) i })
+    ∙ cut-pair-is (a .x) (a .y) (s .pre .0) (s .pre .1) (a .x .exponent -ℤ a .y .exponent) refl (a .size) (a .places) (s .pre .2) (s .pre .3)
 
 pub cut-pair-spec : {M : Type 1} → statement M
 cut-pair-spec =
@@ -98,7 +88,6 @@ cut-pair-spec =
     cast-settle
     sub-settle
     settle-requires
-    cast-shifted
     sub-shifted
     shifted-requires
     returns)
