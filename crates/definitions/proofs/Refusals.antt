@@ -36,6 +36,13 @@ classes s n =
     ∷ finite (record { negative = s; count = 0 })
     ∷ []
 
+-- the tests on operands
+pub class-tests : (s : Bool) (n : ℕ) → (map isUnsupported (classes s n) ≡ true ∷ false ∷ false ∷ false ∷ false ∷ [])
+    × (map isNan (classes s n) ≡ false ∷ true ∷ false ∷ false ∷ false ∷ [])
+    × (map isInfinite (classes s n) ≡ false ∷ false ∷ true ∷ false ∷ false ∷ [])
+    × (map isZero (classes s n) ≡ false ∷ false ∷ false ∷ false ∷ true ∷ [])
+class-tests s n = (refl, refl, refl, rw (some n))
+
 -- [7.1] a row for each dividend, a column for each divisor
 pub remainder-numbers : (s t : Bool) (n m : ℕ) → map (λ x. map (λ y. first (dividing x y)) (classes t m)) (classes s n)
     ≡ (2 ∷ 2 ∷ 2 ∷ 2 ∷ 2 ∷ [])
