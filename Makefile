@@ -12,6 +12,9 @@ RUSTC = rustc
 INSTALL = install
 
 SHELL = /bin/bash
+# messages that the tests look for are in English, and `cd` goes where it says
+export LC_ALL = C.UTF-8
+unexport CDPATH
 .SHELLFLAGS = -e -o pipefail -c
 .DEFAULT_GOAL = help
 
@@ -39,7 +42,7 @@ unbuilt = $(foreach n,fmod remainder remquo ldexp frexp,-fno-builtin-$(n) -fno-b
 parallel = $(MAKE) --no-print-directory -j$$(nproc) --output-sync=target
 headers = tests/calls.h tests/operands.h include/zukemoriha.h
 exported = sed -n 's/^[a-z0-9_]* \(zk_[a-z0-9_]*\)(.*/\1/p' $(header)
-# Run in rust/: nothing comes from a registry, and no setting of the caller's. The crate looks for the archive from its own folder.
+# Run in rust/: nothing comes from a registry, and the caller's flags are left out. The crate looks for the archive from its own folder.
 unset = MAKEFLAGS MFLAGS CARGO_MAKEFLAGS RUSTFLAGS CARGO_ENCODED_RUSTFLAGS CARGO_BUILD_RUSTFLAGS CARGO_BUILD_TARGET \
     CARGO_TARGET_X86_64_UNKNOWN_LINUX_GNU_RUNNER CARGO_TARGET_X86_64_UNKNOWN_LINUX_GNU_RUSTFLAGS
 cargo = env $(addprefix -u ,$(unset)) CARGO_TARGET_DIR=../$(out)/rust ZUKEMORIHA_LIB_DIR=../../$(out)/lib $(CARGO)

@@ -76,6 +76,7 @@ touch "$edits/upper-case-only.edit"
 notices '^> hex/upper-case-only$' documents pages="$pages"
 rm "$edits/upper-case-only.edit"
 page docs/PROOF.md 's|`remainder/a-constant`|`remainder/two-constants`|' 'no edit remainder/two-constants$'
+page docs/PROOF.md 's|`every-list`|`any-list`|' 'no theorem any-list$'
 page docs/ARCHITECTURE.md 's/`hex`/hex/' 'does not name the crate hex$'
 page docs/GATE.md '/^| `hex` |/d' 'has no times of the crate hex$'
 page README.md 's|(docs/SCOPE.md)|(docs/SCOPES.md)|' '^README.md: no docs/SCOPES.md$'

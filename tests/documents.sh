@@ -1,14 +1,16 @@
 #!/bin/sh
 # What the documents name is there, and the crate's version is the header's: every edit in the list of its crate in docs/PROOF.md and no
-# other, every crate in docs/ARCHITECTURE.md and docs/GATE.md, every file that a link or a path below crates/, rust/, tests/, vectors/ or docs/ speaks of,
-# and every sentence of docs/SCOPE.md that a comment or a page points at.
+# other, every theorem that its sections 2 and 3 name, every crate in docs/ARCHITECTURE.md and docs/GATE.md, every file that a link or a
+# path of a page speaks of, and every sentence of docs/SCOPE.md that a comment or a page points at.
 # documents.sh [FOLDER]    the repository's, or a copy's
 set -eu
+unset CDPATH
 cd "${1:-.}"
 wrong=0
 say() { echo "$*"; wrong=1; }
 
 listed=$(mktemp)
+trap 'rm -f "$listed"' EXIT
 awk 'function flush() { if (crate != "") { sub(/[.]$/, "", text); n = split(text, names, ", "); for (i = 1; i <= n; i++) {
         gsub(/ /, "-", names[i]); print crate "/" names[i] } } crate = "" }
     /^## / { within = ($2 == "4.") }
@@ -19,6 +21,12 @@ awk 'function flush() { if (crate != "") { sub(/[.]$/, "", text); n = split(text
 ls crates/*/must-fail/*.edit | sed 's|crates/\(.*\)/must-fail/\(.*\)\.edit|\1/\2|' | sort | diff "$listed" - || say 'docs/PROOF.md lists other edits'
 for edit in $(grep -oh '`[a-z_]*/[a-z0-9-][a-z0-9-]*`' docs/PROOF.md | tr -d '`'); do
     [ -e "crates/${edit%/*}/must-fail/${edit#*/}.edit" ] || [ -e "$edit" ] || [ -e "crates/$edit" ] || say "docs/PROOF.md: no edit $edit"
+done
+
+# a name with hyphens and nothing else is a theorem's
+stated=$(grep -rhoE '^ *pub [a-z0-9-]+ :' crates/*/proofs | sed 's/^ *pub //; s/ ://')
+for theorem in $(awk '/^## / { within = ($2 == "2." || $2 == "3.") } within' docs/PROOF.md | grep -oE '`[a-z0-9]+(-[a-z0-9]+)+`' | tr -d '`' | sort -u | grep -vxF "$stated"); do
+    say "docs/PROOF.md: no theorem $theorem"
 done
 
 for crate in $(ls crates); do
@@ -43,5 +51,4 @@ for sentence in $(grep -rhoE '\[[0-9]+[.][0-9]+[^]]*\]' crates/*/specs crates/*/
 done
 [ "$(sed -n 's/^version = //p' rust/zukemoriha/Cargo.toml)" = "$(sed -n 's/^#define ZK_VERSION //p' include/zukemoriha.h)" ] ||
     say 'the Rust crate and the header are of different versions'
-rm -f "$listed"
 [ $wrong -eq 0 ] && echo 'what the documents name is there'

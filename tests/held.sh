@@ -3,6 +3,7 @@
 # the end, because rt ci removes target/ at its start.
 set -eu
 log=$(mktemp)
+trap 'rm -f "$log"' EXIT
 begun=
 held=
 while IFS= read -r line; do

@@ -78,7 +78,7 @@ static int is_nan_class(int class) {
     return class == NAN_QUIET || class == NAN_SIGNALLING;
 }
 
-/* "Order of checks: 9, 6, 2, 3, 4, 5": what two classes give. */
+/* The order of the checks on two operands, 2, 3, 4, 5: what two classes give. */
 static int number_of(int x, int y) {
     if (x == UNSUPPORTED || y == UNSUPPORTED)
         return ZK_UNSUPPORTED;
@@ -327,7 +327,7 @@ static void spent_blocks(void) {
     check_bytes(block + 12, steps_300, 4, "a run with a budget of 300", X87);
 }
 
-/* "0 is truncated, any other is nearest": 7 by 2 is 1 with quotient 3, or -1 with 4. */
+/* 0 is truncated, and any other kind nearest: 7 by 2 is 1 with quotient 3, or -1 with 4. */
 static void kinds(void) {
     static const uint32_t numbers[] = {0, 1, 2, 255, 256, 65536, UINT32_C(0x80000000), UINT32_MAX};
     static const struct pattern sevens[FORMATS] = {{0x4700, 0}, {0x40E00000, 0}, {UINT64_C(0x401C000000000000), 0},

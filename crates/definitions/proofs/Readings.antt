@@ -14,7 +14,7 @@ pub readings-hold : allComputed readings ≡ allExpected readings
 unfolding computed readings size gap classOf patternOf magnitude first finish step run
 readings-hold = refl
 
--- readings 11 and 12
+-- readings 11 and 12, and a partial value that falls far
 pub long-readings-hold : allComputed longReadings ≡ allExpected longReadings
 unfolding computed longReadings size gap classOf patternOf magnitude first finish step run
 long-readings-hold = refl

@@ -1,4 +1,5 @@
--- [7.5] what every refusal tells, and the number of every class: said once, over all operations and formats. Assumes nothing.
+-- [7.5] what every refusal of a call on patterns tells, and the number of every class: said once, over all operations and formats.
+-- Assumes nothing.
 use mathlib.Core.Path.{_≡_, refl}
 use mathlib.Core.Bool.{Bool, true, false, not, cond, _&&_, _||_}
 use mathlib.Core.List.{List, [], _∷_, map}
@@ -12,10 +13,10 @@ use Rattle.definitions.specs.Remainder.{remainder, remainderOf}
 use Rattle.definitions.specs.Reports.{Lent, fitting, sized, stepping, running, stepReport, runReport}
 use Rattle.definitions.specs.Scale.{scaleReport, scaleOf, splitReport, splitOf, scaling, splitting}
 use Rattle.definitions.specs.Fold.{folding, dividingList}
-use Rattle.definitions.specs.Told.{Asked, divide, step, run, scale, split, told, formatOf, refusalTold}
+use Rattle.definitions.specs.Told.{Asked, divide, step, run, scale, split, told, formatAsked, refusalTold}
 
 -- a refused call tells its number and the refusal's value, and nothing else
-pub refused-tells : (a : Asked) → accepted (told a .number) ≡ false → told a ≡ refusalTold (formatOf a) (told a .number)
+pub refused-tells : (a : Asked) → accepted (told a .number) ≡ false → told a ≡ refusalTold (formatAsked a) (told a .number)
 unfolding told remainder remainderOf stepReport runReport scaleReport scaleOf splitReport splitOf
 refused-tells (divide f κ x y) e = rw e
 refused-tells (step l κ n x y) e = rw e

@@ -58,14 +58,14 @@ unfolding foldList remainder size gap classOf patternOf magnitude first finish
 fold-infinite = refl
 
 -- a NaN and a zero divisor, and lists that are one place short; of empty lists the same
-pub fold-refused : (foldList Truncated 0x7FF0000000000001 readings sevens sevens ≡ untouched 3)
+pub fold-untouched : (foldList Truncated 0x7FF0000000000001 readings sevens sevens ≡ untouched 3)
     × (foldList Nearest 0x8000000000000000 readings sevens sevens ≡ untouched 5)
     × (foldList Truncated 0x7FF8000000000000 readings sevens (7 ∷ 7 ∷ 7 ∷ 7 ∷ []) ≡ record { number = 9; results = sevens; quotients = 7 ∷ 7 ∷ 7 ∷ 7 ∷ []; marked = 0 })
     × (foldList Nearest 0 readings (7 ∷ 7 ∷ 7 ∷ 7 ∷ []) sevens ≡ record { number = 9; results = 7 ∷ 7 ∷ 7 ∷ 7 ∷ []; quotients = sevens; marked = 0 })
     × (foldList Truncated 0 [] [] [] ≡ record { number = 5; results = []; quotients = []; marked = 0 })
     × (foldList Truncated 0x3FF0000000000000 [] [] [] ≡ record { number = 0; results = []; quotients = []; marked = 0 })
 unfolding foldList remainder size gap classOf patternOf magnitude first finish
-fold-refused = (refl, refl, refl, refl, refl, refl)
+fold-untouched = (refl, refl, refl, refl, refl, refl)
 
 -- ---- [9.4, 9.6] the block of reading 7, of a step by infinity, and of a report with four bytes of steps; a refusal leaves what was lent
 abbrev zeros : List ℕ
@@ -86,9 +86,9 @@ pub block-steps : blockAfter zeros (record { number = 7; value = 0; quotient = 5
 unfolding blockAfter
 block-steps = refl
 
-pub block-refused : blockAfter zeros (stepReport nothing Truncated 31 0x40408000000000000000 0x4000C000000000000000) ≡ zeros
+pub block-left : blockAfter zeros (stepReport nothing Truncated 31 0x40408000000000000000 0x4000C000000000000000) ≡ zeros
 unfolding blockAfter stepReport size gap classOf patternOf magnitude first finish step
-block-refused = refl
+block-left = refl
 
 -- ---- [7.2, 7.6, 9.2, 9.5, 6.4] what crosses to C: two words, kinds, what scaling says, and by its number whether an answer is written
 pub crossing : (words 0xC0DF 0x8123456789ABCDEF ≡ 0xC0DF8123456789ABCDEF)

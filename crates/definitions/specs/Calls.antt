@@ -26,7 +26,7 @@ unfolding stepReport runReport
 answer κ y (step l n) x = stepReport l κ n x y
 answer κ y (run l n b) x = runReport l κ n b x y
 
--- a call of a list, made: what it was handed, and what it answered
+-- a call of a list, made: what it was handed, and what it answered. A is what a list hands on: in every claim a pattern
 pub record Made (A : Type 0) : Type 0 where
   pub call : Call
   pub handed : A
@@ -49,7 +49,7 @@ unfoldable pub answers : {A : Type 0} → List (Made A) → List (Made A)
 answers [] = []
 answers (t ∷ ts) = cond (accepted (t .report .number)) (t ∷ answers ts) (answers ts)
 
--- what accepted calls come to: the last value and number
+-- what accepted calls come to: the last value and number; what is given first, where there are none
 unfoldable pub lastValue : {A : Type 0} → A → List (Made A) → A
 lastValue x [] = x
 lastValue x (t ∷ ts) = lastValue (t .report .value) ts
@@ -95,7 +95,7 @@ abbrev pub Some : {A : Type 0} → List A → Type 0
 Some [] = ⊥
 Some (a ∷ l) = Unit {0}
 
--- The same as four rules, and not as a function: the calls cs from x come to the calls ts. No call is left out, a refused one leaves the
+-- What `made` is, as four rules and not as a function: the calls cs from x come to the calls ts. No call is left out, a refused one leaves the
 -- value, an accepted one passes on its own, and nothing comes after a 0.
 pub data Listed {A : Type 0} (f : Call → A → Report A) : A → List Call → List (Made A) → Type 0 where
   none : {x : A} → Listed f x [] []
@@ -137,7 +137,8 @@ valueAt x = dividendOf (classOf x87 x)
 abbrev pub links : Kind → Value → List (Made ℕ) → List Link
 links κ w ts = listChain valueAt κ (by (w .count)) (answers ts)
 
--- [5.9] what is claimed of every list cs of calls from the dividend x by the divisor y: v and w are their values, and ts all calls made
+-- [5.9] what is claimed of every list cs of calls from the dividend x by the divisor y: v and w are their values, as the theorem asks, and
+-- ts all calls made
 pub record EveryList (κ : Kind) (x y : ℕ) (v w : Value) (cs : List Call) (ts : List (Made ℕ)) : Type 0 where
   -- [5.2, 5.3, 5.4] as four rules
   pub listed : Listed (answer κ y) x cs ts

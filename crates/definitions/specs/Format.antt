@@ -104,6 +104,7 @@ quiet Explicit h = h + h / 2
 abbrev pub houseNan : Format → ℕ
 houseNan f = topField f * fieldWeight f + quiet (f .layout) (leading f)
 
+-- and an infinity: its stored significand, and its pattern without the sign
 abbrev pub infinity : Layout → ℕ → ℕ
 infinity Hidden h = 0
 infinity Explicit h = h

@@ -1,4 +1,5 @@
--- What the line program writes: for one line of its input, without the newlines, and for a whole input. Definitions only.
+-- What the line program writes: for one line of its input, without the newlines, and for a whole input. Bytes are ASCII: 48 is 0, 65 is A,
+-- 97 is a, and 32 a space. Definitions only.
 use Prim.Native.Nat.{ℕ, zero, suc, _+_, _-_, _*_, _/_, _%_, _^_}
 use mathlib.Core.Bool.{Bool, true, cond, _&&_, _||_}
 use mathlib.Core.List.{List, [], _∷_, _++_}
@@ -41,7 +42,7 @@ hexDigits (suc k) n = upperHex (n / 16 ^ k % 16) ∷ hexDigits k n
 unfoldable pub answerLine : Remainder → List ℕ
 answerLine r = hexDigits 16 (r .value) ++ (32 ∷ (48 + r .quotient) ∷ 32 ∷ (48 + r .number) ∷ [])
 
--- [10.3] the line of any other
+-- [10.3] the line of any other: bad line
 abbrev pub badLine : List ℕ
 badLine = 98 ∷ 97 ∷ 100 ∷ 32 ∷ 108 ∷ 105 ∷ 110 ∷ 101 ∷ []
 

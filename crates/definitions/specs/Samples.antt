@@ -1,4 +1,5 @@
--- Further examples, for what the users' table does not touch: every refusal, splitting, folded lists, blocks and lines. Definitions only.
+-- Further examples, for what the users' table does not touch: every refusal of a call on patterns, and answers at the edges; and texts as
+-- bytes, for the samples of lines in proofs/. Definitions only.
 use Prim.Native.Nat.{ℕ, zero, suc}
 use Prim.Native.Char.{code}
 use Prim.Native.String.{String, len, charAt}
@@ -11,7 +12,7 @@ use Rattle.definitions.specs.Reports.{nothing, block}
 use Rattle.definitions.specs.Told.{divide, step, run, scale, split}
 use Rattle.definitions.specs.Table.{Reading, reading, call, value, steps, scaled, parts}
 
--- every refusal, in every operation that knows it: the house NaN, nothing else, and the first number that applies
+-- every refusal, in every operation on patterns that knows it: the house NaN, nothing else, and the first number that applies
 unfoldable pub refusals : List Reading
 refusals =
     -- 2: e = 0 with J = 1, an unnormal, and an infinity without J; before a NaN on the other side
@@ -61,7 +62,7 @@ answered =
     reading (call (step (block 16) Truncated 32 0x3FFF8000000000000000 0x3FFF8000000000000000)) (steps 0 0x00000000000000000000 1 1)
     ∷ reading (call (step (block 16) Nearest 63 0x3FFF8000000000000000 0x3FFF8000000000000000)) (steps 0 0x00000000000000000000 1 1)
     ∷ reading (call (run (block 16) Nearest 63 0 0x3FFF8000000000000000 0x3FFF8000000000000000)) (steps 7 0x3FFF8000000000000000 0 0)
-    -- a run that is spent with quotient bits, and the same with one step more: 2^66 by 3 at size 63, 2^128 by 3 at size 32
+    -- runs that are spent, and what one step more gives: 2^66 by 3 at size 63, with quotient bits, and 2^128 by 3 at size 32, without
     ∷ reading (call (run nothing Truncated 63 1 0x40418000000000000000 0x4000C000000000000000)) (steps 7 0x40018000000000000000 4 1)
     ∷ reading (call (run nothing Nearest 63 2 0x40418000000000000000 0x4000C000000000000000)) (steps 0 0x3FFF8000000000000000 5 2)
     ∷ reading (call (run nothing Truncated 32 2 0x407F8000000000000000 0x4000C000000000000000)) (steps 7 0x403F8000000000000000 0 2)

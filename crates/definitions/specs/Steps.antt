@@ -54,7 +54,7 @@ run κ n (suc b) d x =
     let r = followed s (run κ n b d (s .value)) in
     cond (s .done) s r
 
--- one step of a chain: its dividend, and what it came to
+-- one step of a chain: its size, its dividend, and what it came to
 pub record Link : Type 0 where
   pub size : ℕ
   pub dividend : Value

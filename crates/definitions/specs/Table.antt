@@ -1,5 +1,5 @@
--- Worked examples, with the answers that the library's users wrote down before there was any code: ten as one table of what is asked
--- and what is computed, and a second table of longer ones. Definitions only.
+-- Worked examples, with the answers that the library's users expect: ten as one table of what is asked and what is told, and a second
+-- table of longer ones. Definitions only.
 use Prim.Native.Nat.{ℕ}
 use mathlib.Core.List.{List, [], _∷_}
 use lib.IntN.{ℤ, pos, negsuc}
@@ -107,7 +107,7 @@ longReadings =
     ∷ reading (oneStep Truncated 63 0x407E8000000000000000 0x403EFFFFFFFFFFFFFFFF) (steps 1 0x403E8000000000000000 0 1)
     ∷ []
 
--- what the definitions tell of each row, and what is printed of it
+-- what the definitions tell of each row, and what is expected of it
 abbrev pub allComputed : List Reading → List Told
 allComputed [] = []
 allComputed (r ∷ rs) = computed (r .asked) ∷ allComputed rs

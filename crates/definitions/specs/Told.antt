@@ -1,4 +1,4 @@
--- Any call on patterns, and all that it tells. Definitions only.
+-- Any call on one or two patterns, and all that it tells. Definitions only.
 use Prim.Native.Nat.{ℕ}
 use lib.IntN.{ℤ, pos}
 use Rattle.definitions.specs.Format.{Format, x87}
@@ -46,12 +46,13 @@ told (run l κ n b x y) = toldReport (runReport l κ n b x y)
 told (scale f x k) = toldScale (scaleReport f x k)
 told (split f x) = toldSplit (splitReport f x)
 
-abbrev pub formatOf : Asked → Format
-formatOf (divide f κ x y) = f
-formatOf (step l κ n x y) = x87
-formatOf (run l κ n b x y) = x87
-formatOf (scale f x k) = f
-formatOf (split f x) = f
+-- the format of its patterns
+abbrev pub formatAsked : Asked → Format
+formatAsked (divide f κ x y) = f
+formatAsked (step l κ n x y) = x87
+formatAsked (run l κ n b x y) = x87
+formatAsked (scale f x k) = f
+formatAsked (split f x) = f
 
 -- [7.5] what a refusal with the number n tells, whatever was asked
 abbrev pub refusalTold : Format → ℕ → Told

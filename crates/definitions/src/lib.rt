@@ -1,7 +1,7 @@
 // The words that the code and the definitions share. There is no code here: specs/ is what a reader has to believe, and
 // specs/Answers.antt gives the number and the values of each case of each answer below.
 
-// Which whole number the quotient is cut to.
+// Which whole number the quotient is taken as.
 pub enum Kind {
     Truncated,
     Nearest,

@@ -1,1 +1,1 @@
--- Nothing of its own: the laws speak of crates/definitions alone.
+-- Nothing of its own: the laws speak of crates/definitions, and Agrees of the toolchain's IEEE 754 besides.

@@ -27,9 +27,10 @@ use Rattle.packing.specs.Stands.{Stands, StandsValue, StandsDivisor}
 use Rattle.shapes.proofs.Sounds.{sound80}
 use Rattle.packing.proofs.Standing.{class-of, stands-finite, stands-pattern, class-pattern, divisor-stands, divisor-is}
 use Rattle.pairs.proofs.Bits.{bits-low}
-use Rattle.steps.specs.Ran.{ranOf, ranReport, callReport}
-use Rattle.steps.specs.declared.run.Ran.{Ran}
-use Rattle.steps.proofs.Loop.{ran-held, ran-stands}
+use Rattle.runs.specs.Ran.{ranOf}
+use Rattle.steps.specs.Called.{ranReport, callReport}
+use Rattle.runs.specs.declared.Ran.{Ran}
+use Rattle.runs.proofs.Loop.{ran-held, ran-stands}
 
 -- ---- the size, by the two comparisons
 

@@ -1,6 +1,4 @@
 // A call of a size on two operands: its checks, and its answer. A step is a run of budget one.
-use crate::run::Ran;
-use crate::run::run_value;
 use checks::Verdict;
 use checks::pair::judge_pair;
 use definitions::Kind;
@@ -11,6 +9,8 @@ use operands::Operand;
 use operands::divisor_of;
 use packing::pack::pack;
 use pairs::quotient_bits;
+use runs::Ran;
+use runs::run_value;
 ghost use mathlib.Core.Path.{_≡_};
 ghost use mathlib.Core.Bool.{true};
 ghost use mathlib.Core.List.{_++_};
@@ -24,7 +24,7 @@ ghost use Rattle.definitions.specs.Answers.{stepsMeaning};
 ghost use Rattle.operands.specs.Operand.{operandOf, classIn};
 ghost use Rattle.checks.specs.Verdict.{verdictNumber};
 ghost use Rattle.packing.specs.Stands.{Stands, StandsValue};
-ghost use Rattle.steps.specs.Ran.{ranReport, callReport};
+ghost use Rattle.steps.specs.Called.{ranReport, callReport};
 
 // The size, 6, then the operands.
 fn judge_call(x: Operand, y: Operand, size: u32) -> Verdict

@@ -1,4 +1,4 @@
-//! The readings: twelve worked examples that came with the definitions, through both
+//! The readings: the users' twelve worked examples, and answers beside them, through both
 //! implementations. They are in the layout of the vectors.
 
 mod altered;

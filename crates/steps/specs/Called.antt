@@ -1,21 +1,17 @@
--- What a run comes to, and what a call reports of it. Nothing to believe: these only name the code's own values.
-use Prim.Native.Nat.{ℕ, _%_, _^_}
+-- What a call reports. Nothing to believe: these only name the code's own values.
+use Prim.Native.Nat.{ℕ}
 use mathlib.Core.Bool.{not, cond}
 use mathlib.Core.List.{[], _∷_, _++_}
-use Rattle.definitions.specs.Class.{Class, finite}
+use Rattle.definitions.specs.Class.{Class}
 use Rattle.definitions.specs.Format.{x87, patternOf}
 use Rattle.definitions.specs.Numbers.{check, first, dividing}
-use Rattle.definitions.specs.Division.{Outcome, dividendOf, divisorOf}
+use Rattle.definitions.specs.Division.{dividendOf, divisorOf}
 use Rattle.definitions.specs.Remainder.{quotientBits}
 use Rattle.definitions.specs.Steps.{run}
 use Rattle.definitions.specs.Reports.{Report, nothing, calling, reportOf}
 use Rattle.definitions.specs.declared.Kind.{Kind}
-use Rattle.operands.specs.Operand.{classIn, operandOf}
-use Rattle.steps.specs.declared.run.Ran.{Ran}
-
--- a run's outcome, on its way
-abbrev pub ranOf : Outcome → Ran
-ranOf r = record { done = r .done; value = operandOf (x87 .smallest) (finite (r .value)); quotient = r .whole % 2 ^ 32; steps = r .steps }
+use Rattle.operands.specs.Operand.{classIn}
+use Rattle.runs.specs.declared.Ran.{Ran}
 
 -- what a run came to, written down, where an unfinished one has the number u
 abbrev pub ranReport : ℕ → Ran → Report ℕ

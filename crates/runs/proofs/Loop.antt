@@ -21,8 +21,8 @@ use Rattle.shapes.proofs.Sounds.{sound80}
 use Rattle.packing.proofs.Standing.{unpacks, value-of, stands-value}
 use Rattle.partial.specs.Stepped.{steppedOf}
 use Rattle.partial.specs.declared.Stepped.{Stepped}
-use Rattle.steps.specs.Ran.{ranOf}
-use Rattle.steps.specs.declared.run.Ran.{Ran}
+use Rattle.runs.specs.Ran.{ranOf}
+use Rattle.runs.specs.declared.Ran.{Ran}
 
 -- what the loop has reached from v by d after so many steps, none of which finished
 pub record Reached (κ : Kind) (n : ℕ) (d : division.Divisor) (v : Value) (value : Operand) (quotient steps : ℕ) : Type 0 where

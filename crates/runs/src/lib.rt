@@ -1,4 +1,5 @@
-// A run of steps of one size with a budget, on operands that have been judged.
+// A run of steps of one size with a budget, on operands that have been judged. Only crates of this repository call it, with operands as
+// `unpack` makes them.
 use definitions::Kind;
 use operands::Divisor;
 use operands::Operand;
@@ -10,7 +11,7 @@ ghost use Rattle.definitions.specs.Steps.{run};
 ghost use Rattle.definitions.specs.Reports.{sized};
 ghost use Rattle.operands.specs.Operand.{valueOperand, divisorIn};
 ghost use Rattle.packing.specs.Stands.{StandsValue, StandsDivisor};
-ghost use Rattle.steps.specs.Ran.{ranOf};
+ghost use Rattle.runs.specs.Ran.{ranOf};
 
 // What a run comes to: whether it finished, what is left, the low 32 bits of the quotient, and how many steps it took.
 pub struct Ran {

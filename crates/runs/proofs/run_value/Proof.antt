@@ -5,11 +5,11 @@ use native.Mathlib.Omega.{arith}
 use Rattle.definitions.specs.Format.{x87}
 use Rattle.definitions.specs.Steps.{run}
 use Rattle.operands.specs.Operand.{valueOperand, divisorIn}
-use Rattle.steps.specs.Ran.{ranOf}
-use Rattle.steps.proofs.Loop.{Reached, reached-none, reached-stands, reached-next, reached-done, reached-spent}
+use Rattle.runs.specs.Ran.{ranOf}
+use Rattle.runs.proofs.Loop.{Reached, reached-none, reached-stands, reached-next, reached-done, reached-spent}
 use borrow.Author.Needs.{needs}
-use Rattle.steps.proofs.run.run_value.Statement.{statement}
-use Rattle.steps.proofs.run.run_value.Tie as tie
+use Rattle.runs.proofs.run_value.Statement.{statement}
+use Rattle.runs.proofs.run_value.Tie as tie
 
 abbrev Inv-loop : tie.InvT-loop
 Inv-loop kind y size budget value₀ quotient₀ steps₀ value quotient steps =
