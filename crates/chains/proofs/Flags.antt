@@ -1,6 +1,6 @@
--- The three flags of a finished step are its quotient bits. Assumes nothing.
-use mathlib.Core.Path.{_≡_, refl, sym, _∙_}
-use mathlib.Core.Bool.{Bool, true, false, cond}
+-- The three flags of a finished step are its quotient bits, and the fourth says that a step was partial. Assumes nothing.
+use mathlib.Core.Path.{_≡_, refl, sym, ap, _∙_}
+use mathlib.Core.Bool.{Bool, true, false, not, cond}
 use Prim.Native.Nat.{ℕ, _+_, _*_, _/_, _%_, _<_}
 use native.Mathlib.Nat.{div-div-eq-div-mul}
 use native.Mathlib.Omega.{arith}
@@ -11,7 +11,10 @@ use Rattle.definitions.specs.declared.Kind.{Kind}
 use Rattle.definitions.specs.Division.{Outcome, dividendOf, divisorOf}
 use Rattle.definitions.specs.Remainder.{quotientBits}
 use Rattle.definitions.specs.Steps.{step, flagsOf}
+use Rattle.definitions.specs.Numbers.{first, accepted}
 use Rattle.definitions.specs.Reports.{Lent, stepReport}
+use Rattle.digits.proofs.Tests.{clash}
+use Rattle.chains.proofs.Spent.{Judgement, refused, passed, result}
 
 bit : (b : ℕ) → b < 2 → cond (eqb b 1) 1 0 ≡ b
 bit b h = go (eqb b 1) refl
@@ -45,3 +48,19 @@ unfolding stepReport
 finished-flags l κ n x y e =
     let r = step κ n (divisorOf (classOf x87 y)) (dividendOf (classOf x87 x)) in
     rw e (flags-are-bits r ∙ bits-left (r .whole))
+
+partial-number : {i z : Bool} {number : ℕ → ℕ} (d : Bool) → Judgement i z number → accepted (number (cond (not d) 1 0)) ≡ true
+    → not d ≡ eqb (number (cond (not d) 1 0)) 1
+partial-number d (refused r a o s e) h = let f = sym (ap accepted (e (cond (not d) 1 0))) ∙ h in clash (cc)
+partial-number d (passed i z e) h = rw (e (cond (not d) 1 0)) (go d)
+  where
+    go : (t : Bool) → not t ≡ eqb (cond (not t) 1 0) 1
+    go true = refl
+    go false = refl
+
+-- [4.11] C2 says that an accepted step gave 1
+pub partial-flag : (l : Lent) (κ : Kind) (n x y : ℕ) → accepted (stepReport l κ n x y .number) ≡ true
+    → flagsOf (step κ n (divisorOf (classOf x87 y)) (dividendOf (classOf x87 x))) .c2 ≡ eqb (stepReport l κ n x y .number) 1
+unfolding stepReport first
+partial-flag l κ n x y =
+    partial-number (step κ n (divisorOf (classOf x87 y)) (dividendOf (classOf x87 x)) .done) (result l n (classOf x87 x) (classOf x87 y))
