@@ -1,28 +1,48 @@
 -- [7.5] what every refusal of a call on patterns tells, and the number of every class: said once, over all operations and formats.
 -- Assumes nothing.
 use mathlib.Core.Path.{_≡_, refl}
-use mathlib.Core.Bool.{Bool, true, false, not, cond, _&&_, _||_}
+use mathlib.Core.Bool.{Bool, true, false, not, cond, _&&_, _||_, Bool·beq}
 use mathlib.Core.List.{List, [], _∷_, map}
-use Prim.Native.Nat.{ℕ, suc}
+use Prim.Native.Nat.{ℕ, suc, _+_, _<_}
 use native.Mathlib.Omega.{arith}
-use lib.Dec.{eqb}
+use borrow.Author.Tests.{le-leb, lt-leb}
+use lib.Dec.{leb, eqb}
+use lib.IntN.{ℤ, pos}
+use lib.ListN.{length}
 use Rattle.digits.proofs.Tests.{not-zero}
-use Rattle.definitions.specs.Class.{Class, unsupported, nan, infinite, finite}
+use Rattle.definitions.specs.Class.{Value, Class, unsupported, nan, infinite, finite}
+use Rattle.definitions.specs.Format.{Format, x87, classOf, explicitClass, houseNan, leading, topField}
 use Rattle.definitions.specs.Numbers.{first, accepted, dividing, isUnsupported, isNan, isInfinite, isZero}
-use Rattle.definitions.specs.Remainder.{remainder, remainderOf}
+use Rattle.definitions.specs.Division.{dividendOf, divisorOf}
+use Rattle.definitions.specs.Remainder.{remainder, remainderOf, refusedValue}
+use Rattle.definitions.specs.Steps.{step, run}
 use Rattle.definitions.specs.Reports.{Lent, fitting, sized, stepping, running, stepReport, runReport}
 use Rattle.definitions.specs.Scale.{scaleReport, scaleOf, splitReport, splitOf, scaling, splitting}
 use Rattle.definitions.specs.Fold.{folding, dividingList}
-use Rattle.definitions.specs.Told.{Asked, divide, step, run, scale, split, told, formatAsked, refusalTold}
+use Rattle.definitions.specs.Exports.{lending}
+use Rattle.definitions.specs.declared.Kind.{Kind}
+use Rattle.definitions.specs.declared.Rounding.the-variants.{Exact}
 
--- a refused call tells its number and the refusal's value, and nothing else
-pub refused-tells : (a : Asked) → accepted (told a .number) ≡ false → told a ≡ refusalTold (formatAsked a) (told a .number)
-unfolding told remainder remainderOf stepReport runReport scaleReport scaleOf splitReport splitOf
-refused-tells (divide f κ x y) e = rw e
-refused-tells (step l κ n x y) e = rw e
-refused-tells (run l κ n b x y) e = rw e
-refused-tells (scale f x k) e = rw e
-refused-tells (split f x) e = rw e
+-- a refusal has its number, the refusal's value, and nothing else
+pub refused-tells : (f : Format) (l : Lent) (κ : Kind) (n b x y : ℕ) (k : ℤ)
+    → let r = remainder f κ x y in
+    let s = stepReport l κ n x y in
+    let t = runReport l κ n b x y in
+    let u = scaleReport f x k in
+    let v = splitReport f x in
+    (accepted (r .number) ≡ false → r ≡ record { number = r .number; value = refusedValue f; quotient = 0 })
+    × (accepted (s .number) ≡ false → s ≡ record { number = s .number; value = refusedValue x87; quotient = 0; steps = 0 })
+    × (accepted (t .number) ≡ false → t ≡ record { number = t .number; value = refusedValue x87; quotient = 0; steps = 0 })
+    × (accepted (u .number) ≡ false → u ≡ record { number = u .number; value = refusedValue f; says = Exact })
+    × (accepted (v .number) ≡ false → v ≡ record { number = v .number; significand = refusedValue f; exponent = pos 0 })
+unfolding remainder remainderOf stepReport runReport scaleReport scaleOf splitReport splitOf
+refused-tells f l κ n b x y k = (λ e. rw e, λ e. rw e, λ e. rw e, λ e. rw e, λ e. rw e)
+
+-- [2.9] and that value is the house NaN
+pub refused-value : (f : Format) → refusedValue f ≡ houseNan f
+refused-value f = refl
+
+-- ---- the number of a call, by the classes of its operands
 
 some : (n : ℕ) → eqb (suc n) 0 ≡ false
 some n = not-zero (suc n) (omega arith)
@@ -55,6 +75,14 @@ pub remainder-numbers : (s t : Bool) (n m : ℕ) → map (λ x. map (λ y. first
 unfolding first
 remainder-numbers s t n m = rw (some m)
 
+-- the remainder, scaling and splitting have no other
+pub pattern-numbers : (f : Format) (κ : Kind) (x y : ℕ) (k : ℤ)
+    → (remainder f κ x y .number ≡ first (dividing (classOf f x) (classOf f y)))
+    × (scaleReport f x k .number ≡ first (scaling (classOf f x)))
+    × (splitReport f x .number ≡ first (splitting (classOf f x)))
+unfolding remainder remainderOf scaleReport scaleOf splitReport splitOf
+pattern-numbers f κ x y k = (refl, refl, refl)
+
 -- of scaling, of splitting, and of a list's divisor, which is never unsupported
 pub scaling-numbers : (s : Bool) (n : ℕ) → map (λ x. first (scaling x)) (classes s n) ≡ 2 ∷ 3 ∷ 0 ∷ 0 ∷ 0 ∷ []
 unfolding first
@@ -82,11 +110,11 @@ folding-numbers xs results quotients y = go (eqb results xs && eqb quotients xs)
 abbrev called : Lent → ℕ → ℕ → ℕ → ℕ
 called l n refused ended = cond (fitting l) (cond (sized n) (cond (eqb refused 0) ended refused) 6) 9
 
-pub call-numbers : (l : Lent) (n : ℕ) (x y : Class) (unfinished : Bool)
+check-numbers : (l : Lent) (n : ℕ) (x y : Class) (unfinished : Bool)
     → (first (stepping l n x y unfinished) ≡ called l n (first (dividing x y)) (cond unfinished 1 0))
     × (first (running l n x y unfinished) ≡ called l n (first (dividing x y)) (cond unfinished 7 0))
 unfolding first
-call-numbers l n x y t = (go 1, go 7)
+check-numbers l n x y t = (go 1, go 7)
   where
     by : (m i u q d z : Bool) (k : ℕ) → cond (not m) 9 (cond (not i) 6 (cond u 2 (cond q 3 (cond d 4 (cond z 5 k)))))
         ≡ cond m (cond i (cond (eqb (cond u 2 (cond q 3 (cond d 4 (cond z 5 0)))) 0) k (cond u 2 (cond q 3 (cond d 4 (cond z 5 0))))) 6) 9
@@ -101,3 +129,36 @@ call-numbers l n x y t = (go 1, go 7)
     go : (u : ℕ) → _≡_ {A = ℕ} (cond (not (fitting l)) 9 (cond (not (sized n)) 6 (cond (isUnsupported x || isUnsupported y) 2 (cond (isNan x || isNan y) 3 (cond (isInfinite x) 4 (cond (isZero y) 5 (cond t u 0)))))))
         (called l n (first (dividing x y)) (cond t u 0))
     go u = by (fitting l) (sized n) (isUnsupported x || isUnsupported y) (isNan x || isNan y) (isInfinite x) (isZero y) (cond t u 0)
+
+pub call-numbers : (l : Lent) (κ : Kind) (n b x y : ℕ)
+    → let X = classOf x87 x in
+    let Y = classOf x87 y in
+    (stepReport l κ n x y .number ≡ called l n (first (dividing X Y)) (cond (not (step κ n (divisorOf Y) (dividendOf X) .done)) 1 0))
+    × (runReport l κ n b x y .number ≡ called l n (first (dividing X Y)) (cond (not (run κ n b (divisorOf Y) (dividendOf X) .done)) 7 0))
+unfolding stepReport runReport
+call-numbers l κ n b x y =
+    let X = classOf x87 x in
+    let Y = classOf x87 y in
+    (check-numbers l n X Y (not (step κ n (divisorOf Y) (dividendOf X) .done)) .0, check-numbers l n X Y (not (run κ n b (divisorOf Y) (dividendOf X) .done)) .1)
+
+-- [4.1] the sizes from 32 to 63, and no others
+pub sizes : (k : ℕ) → (k < 32 → sized k ≡ false) × (k < 32 → sized (32 + k) ≡ true) × (sized (64 + k) ≡ false)
+sizes k =
+    (λ h. rw (lt-leb 32 k h), λ h. rw (le-leb 32 (32 + k) (omega arith), le-leb (32 + k) 63 (omega arith)), rw (le-leb 32 (64 + k) (omega arith), lt-leb (64 + k) 63 (omega arith)))
+
+-- [9.3] a lent block fits if it has 16 bytes
+pub lent-blocks : (held : List ℕ) → fitting (lending held) ≡ eqb (length held) 16
+lent-blocks held = refl
+
+-- [2.6] an x87 pattern is unsupported if its leading digit is there with the field 0, or missing with any other
+pub unsupported-patterns : (f : Format) (n : Bool) (e s : ℕ) → isUnsupported (explicitClass f n e s) ≡ Bool·beq (leb (leading f) s) (eqb e 0)
+unsupported-patterns f n e s = go (leb (leading f) s) (eqb e 0) (eqb e (topField f)) (eqb s (leading f)) _ _
+  where
+    go : (J z t i : Bool) (v w : Value)
+        → isUnsupported (cond z (cond J unsupported (finite v)) (cond J (cond t (cond i (infinite n) nan) (finite w)) unsupported)) ≡ Bool·beq J z
+    go true true t i v w = refl
+    go false true t i v w = refl
+    go true false true true v w = refl
+    go true false true false v w = refl
+    go true false false i v w = refl
+    go false false t i v w = refl

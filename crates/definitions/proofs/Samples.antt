@@ -3,9 +3,12 @@ use mathlib.Core.Path.{_≡_, refl}
 use mathlib.Core.Bool.{Bool, true, false, cond}
 use mathlib.Core.List.{List, [], _∷_, map}
 use Prim.Native.Nat.{ℕ, zero, suc}
+use native.Mathlib.Omega.{arith}
 use lib.Ieee.{size}
+use lib.IntN.{negsuc}
+use Rattle.digits.proofs.Tests.{not-zero}
 use Rattle.definitions.specs.Class.{gap}
-use Rattle.definitions.specs.Format.{words, classOf, patternOf, magnitude}
+use Rattle.definitions.specs.Format.{words, binary16, classOf, patternOf, magnitude}
 use Rattle.definitions.specs.Numbers.{first}
 use Rattle.definitions.specs.Division.{finish}
 use Rattle.definitions.specs.Remainder.{remainder}
@@ -15,7 +18,12 @@ use Rattle.definitions.specs.Steps.{step, run}
 use Rattle.definitions.specs.Reports.{nothing, stepReport, runReport}
 use Rattle.definitions.specs.Fold.{Folded, foldList}
 use Rattle.definitions.specs.declared.Refusal.the-variants as why
-use Rattle.definitions.specs.Answers.{refusalNumber}
+use Rattle.definitions.specs.declared.Pattern.{Pattern}
+use Rattle.definitions.specs.declared.RemainderAnswer.the-variants as rem
+use Rattle.definitions.specs.declared.StepsAnswer.the-variants as steps
+use Rattle.definitions.specs.declared.ScaleAnswer.the-variants as scale
+use Rattle.definitions.specs.declared.SplitAnswer.the-variants as split
+use Rattle.definitions.specs.Answers.{refusalNumber, remainderMeaning, stepsMeaning, stepMeaning, runMeaning, scaleMeaning, splitMeaning}
 use Rattle.definitions.specs.Block.{kindOf, blockAfter}
 use Rattle.definitions.specs.Line.{isHex, digitOf, lineFor, outputFor}
 use Rattle.definitions.specs.Exports.{after, significandIn, wordIn, saysNumber}
@@ -90,13 +98,32 @@ pub block-left : blockAfter zeros (stepReport nothing Truncated 31 0x40408000000
 unfolding blockAfter stepReport size gap classOf patternOf magnitude first finish step
 block-left = refl
 
--- ---- [7.2, 7.6, 9.2, 9.5, 6.4] what crosses to C: two words, kinds, what scaling says, and by its number whether an answer is written
+abbrev pattern : Pattern
+pattern = record { high = 0x10001; low = 0x8000000000000001 }
+
+abbrev joint : ℕ
+joint = 0x100018000000000000001
+
+-- ---- [7.2, 7.6, 9.2, 6.4] what crosses to C: two words, what scaling says, and by its number whether an answer is written
 pub crossing : (words 0xC0DF 0x8123456789ABCDEF ≡ 0xC0DF8123456789ABCDEF)
     × (significandIn 0xC0DF8123456789ABCDEF ≡ 0x8123456789ABCDEF) × (wordIn 0xC0DF8123456789ABCDEF ≡ 0xC0DF)
-    × (map kindOf (0 ∷ 1 ∷ 2 ∷ 4294967295 ∷ []) ≡ Truncated ∷ Nearest ∷ Nearest ∷ Nearest ∷ [])
     × (map saysNumber (Exact ∷ Up ∷ Down ∷ []) ≡ 0 ∷ 1 ∷ 2 ∷ [])
     × (map {B = ℕ} (λ n. after n 1 0) (0 ∷ 1 ∷ 2 ∷ 3 ∷ 4 ∷ 5 ∷ 6 ∷ 7 ∷ 8 ∷ 9 ∷ []) ≡ 1 ∷ 1 ∷ 0 ∷ 0 ∷ 0 ∷ 0 ∷ 0 ∷ 1 ∷ 0 ∷ 0 ∷ [])
-crossing = (refl, refl, refl, refl, refl, refl)
+crossing = (refl, refl, refl, refl, refl)
+
+-- [9.5] kinds
+pub kinds : (kindOf 0 ≡ Truncated) × ((k : ℕ) → kindOf (suc k) ≡ Nearest)
+kinds = (refl, λ k. rw (not-zero (suc k) (omega arith)))
+
+-- the fields of an answer are told as they are
+pub meanings : (remainderMeaning binary16 (rem.Finished pattern 9) ≡ record { number = 0; value = joint; quotient = 9 })
+    × (stepMeaning (steps.Finished pattern 9 5) ≡ record { number = 0; value = joint; quotient = 9; steps = 5 })
+    × (stepMeaning (steps.Unfinished pattern 9 5) ≡ record { number = 1; value = joint; quotient = 9; steps = 5 })
+    × (runMeaning (steps.Unfinished pattern 9 5) ≡ record { number = 7; value = joint; quotient = 9; steps = 5 })
+    × (scaleMeaning binary16 (scale.Scaled pattern Down) ≡ record { number = 0; value = joint; says = Down })
+    × (splitMeaning binary16 (split.Parts pattern (negsuc 8)) ≡ record { number = 0; significand = joint; exponent = negsuc 8 })
+unfolding remainderMeaning stepsMeaning scaleMeaning splitMeaning
+meanings = (refl, refl, refl, refl, refl, refl)
 
 -- [7.1] the number of each refusal of the code
 pub refusal-numbers : map refusalNumber (why.BadLength ∷ why.BadSize ∷ why.Unsupported ∷ why.Nan ∷ why.Infinite ∷ why.ZeroDivisor ∷ why.ZeroSplit ∷ [])

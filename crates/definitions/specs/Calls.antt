@@ -1,7 +1,8 @@
 -- Lists of step and run calls from one dividend, and what is claimed of every such list. Definitions only.
 use Prim.Native.Nat.{ℕ, _+_, _*_, _%_, _≤_}
 use mathlib.Core.Path.{_≡_}
-use mathlib.Core.Bool.{Bool, true, false, cond, _||_}
+use mathlib.Core.Bool.{Bool, true, false, cond, _&&_, _||_}
+use mathlib.Core.Logic.{_⊎_}
 use mathlib.Core.List.{List, [], _∷_, _++_}
 use lib.Dec.{eqb}
 use lib.ListN.{length}
@@ -13,7 +14,7 @@ use Rattle.definitions.specs.declared.Kind.{Kind}
 use Rattle.definitions.specs.Division.{Divisor, by, dividendOf}
 use Rattle.definitions.specs.Remainder.{remainder, quotientModulus, quotientBits}
 use Rattle.definitions.specs.Steps.{Link, chain, partsSum, mostSteps}
-use Rattle.definitions.specs.Reports.{Report, Lent, nothing, stepReport, runReport}
+use Rattle.definitions.specs.Reports.{Report, Lent, nothing, fitting, sized, stepReport, runReport}
 
 -- [5.1] a call of a list
 pub data Call : Type 0 where
@@ -105,18 +106,32 @@ pub data Listed {A : Type 0} (f : Call → A → Report A) : A → List Call →
   goesOn : {x : A} {c : Call} {cs : List Call} {ts : List (Made A)} → accepted (f c x .number) ≡ true → eqb (f c x .number) 0 ≡ false → Listed f (f c x .value) cs ts
       → Listed f x (c ∷ cs) (record { call = c; handed = x; report = f c x } ∷ ts)
 
--- [5.3] what a call adds: a refused one nothing, an accepted step one step, and a run that gives 7 its whole budget
-abbrev pub Takes : Call → ℕ → ℕ → Type 0
-Takes (step l n) number steps = steps ≡ 1
-Takes (run l n b) number steps = number ≡ 7 → steps ≡ b
+-- [5.1] a call is one of step or run: its report is the one that their contracts cite
+abbrev pub Reported : Kind → ℕ → Call → ℕ → Report ℕ → Type 0
+Reported κ y (step l n) x r = r ≡ stepReport l κ n x y
+Reported κ y (run l n b) x r = r ≡ runReport l κ n b x y
 
-pub record Adds {A : Type 0} (t : Made A) : Type 0 where
-  pub refused : accepted (t .report .number) ≡ false → (t .report .steps ≡ 0) × (t .report .quotient ≡ 0)
-  pub answered : accepted (t .report .number) ≡ true → Takes (t .call) (t .report .number) (t .report .steps)
+-- [5.1] its block and its size alone get it refused
+abbrev pub taken : Call → Bool
+taken (step l n) = fitting l && sized n
+taken (run l n b) = fitting l && sized n
 
-abbrev pub EachAdds : {A : Type 0} → List (Made A) → Type 0
-EachAdds [] = Unit {0}
-EachAdds (t ∷ ts) = Adds t × EachAdds ts
+-- [5.1, 5.3] an accepted step gives 0 or 1 and takes one step; an accepted run gives 0, or 7 and takes its whole budget
+abbrev pub Gives : Call → Report ℕ → Type 0
+Gives (step l n) r = ((r .number ≡ 0) ⊎ (r .number ≡ 1)) × (r .steps ≡ 1)
+Gives (run l n b) r = (r .number ≡ 0) ⊎ ((r .number ≡ 7) × (r .steps ≡ b))
+
+-- what is claimed of each call of a list
+pub record EachCall (κ : Kind) (y : ℕ) (t : Made ℕ) : Type 0 where
+  pub reported : Reported κ y (t .call) (t .handed) (t .report)
+  pub taken : accepted (t .report .number) ≡ taken (t .call)
+  pub gives : accepted (t .report .number) ≡ true → Gives (t .call) (t .report)
+  -- [5.3] a refused one adds nothing
+  pub adds : accepted (t .report .number) ≡ false → (t .report .steps ≡ 0) × (t .report .quotient ≡ 0)
+
+abbrev pub All : {A : Type 0} → (A → Type 0) → List A → Type 0
+All P [] = Unit {0}
+All P (a ∷ l) = P a × All P l
 
 -- the steps that an accepted call is made of, and those of a list, on the values that its patterns stand for
 unfoldable pub callChain : Kind → Divisor → Call → Value → List Link
@@ -142,8 +157,8 @@ links κ w ts = listChain valueAt κ (by (w .count)) (answers ts)
 pub record EveryList (κ : Kind) (x y : ℕ) (v w : Value) (cs : List Call) (ts : List (Made ℕ)) : Type 0 where
   -- [5.2, 5.3, 5.4] as four rules
   pub listed : Listed (answer κ y) x cs ts
-  -- [5.3]
-  pub adds : EachAdds ts
+  -- [5.1, 5.3]
+  pub each : All (EachCall κ y) ts
   -- [4.6, 5.5] the steps are those of the chain
   pub counted : totalSteps ts ≡ length (links κ w ts)
   -- [4.7, 5.5] the quotient bits are those of the sum of the exact parts, whether the list has finished or not
@@ -156,5 +171,5 @@ pub record EveryList (κ : Kind) (x y : ℕ) (v w : Value) (cs : List Call) (ts 
   -- [4.10]
   pub exact : valueOf v ≡ valueOf (valueAt (lastValue x (answers ts))) +ℤ valueOf w *ℤ partsSum w (links κ w ts)
   -- [5.8]
-  pub one : (n : ℕ) → Runs n (answers ts) → Some (answers ts) → answer κ y (run nothing n (totalBudget (answers ts))) x
+  pub one : (n : ℕ) → Runs n (answers ts) → Some (answers ts) → runReport nothing κ n (totalBudget (answers ts)) x y
       ≡ record { number = lastNumber 7 (answers ts); value = lastValue x (answers ts); quotient = totalQuotient ts; steps = totalSteps ts }

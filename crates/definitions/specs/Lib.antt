@@ -14,7 +14,6 @@ pub mod Fold
 pub mod Bytes
 pub mod Block
 pub mod Line
-pub mod Told
 pub mod Table
 pub mod Samples
 pub mod Exports

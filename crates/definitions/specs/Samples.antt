@@ -9,75 +9,75 @@ use Rattle.definitions.specs.Format.{binary16, binary32, binary64, x87}
 use Rattle.definitions.specs.declared.Kind.the-variants.{Truncated, Nearest}
 use Rattle.definitions.specs.declared.Rounding.the-variants.{Exact}
 use Rattle.definitions.specs.Reports.{nothing, block}
-use Rattle.definitions.specs.Told.{divide, step, run, scale, split}
-use Rattle.definitions.specs.Table.{Reading, reading, call, value, steps, scaled, parts}
+use Rattle.definitions.specs.Table.{Reading, reading, divide, step, run, scale, split, value, steps, scaled, parts}
 
 -- every refusal, in every operation on patterns that knows it: the house NaN, nothing else, and the first number that applies
 unfoldable pub refusals : List Reading
 refusals =
-    -- 2: e = 0 with J = 1, an unnormal, and an infinity without J; before a NaN on the other side
-    reading (call (divide x87 Truncated 0x00008000000000000000 0x3FFF8000000000000000)) (value 2 0x7FFFC000000000000000 0)
-    ∷ reading (call (divide x87 Nearest 0x3FFF8000000000000000 0x40007FFFFFFFFFFFFFFF)) (value 2 0x7FFFC000000000000000 0)
-    ∷ reading (call (divide x87 Truncated 0x7FFF0000000000000000 0x7FFFC000000000000001)) (value 2 0x7FFFC000000000000000 0)
-    ∷ reading (call (step nothing Truncated 63 0xFFFFA000000000000000 0x40007FFFFFFFFFFFFFFF)) (steps 2 0x7FFFC000000000000000 0 0)
-    ∷ reading (call (run nothing Nearest 63 0 0x40007FFFFFFFFFFFFFFF 0x00000000000000000000)) (steps 2 0x7FFFC000000000000000 0 0)
-    ∷ reading (call (scale x87 0x00008000000000000000 (pos 1))) (scaled 2 0x7FFFC000000000000000 Exact)
-    ∷ reading (call (split x87 0x7FFF0000000000000000)) (parts 2 0x7FFFC000000000000000 (pos 0))
+    -- 2: e = 0 with J = 1, an unnormal, an infinity and a NaN without J; before a NaN on the other side
+    reading (divide x87 Truncated 0x00008000000000000000 0x3FFF8000000000000000) (value 2 0x7FFFC000000000000000 0)
+    ∷ reading (divide x87 Nearest 0x3FFF8000000000000000 0x40007FFFFFFFFFFFFFFF) (value 2 0x7FFFC000000000000000 0)
+    ∷ reading (divide x87 Truncated 0x7FFF0000000000000000 0x7FFFC000000000000001) (value 2 0x7FFFC000000000000000 0)
+    ∷ reading (divide x87 Nearest 0x7FFF4000000000000000 0x3FFF8000000000000000) (value 2 0x7FFFC000000000000000 0)
+    ∷ reading (step nothing Truncated 63 0xFFFFA000000000000000 0x40007FFFFFFFFFFFFFFF) (steps 2 0x7FFFC000000000000000 0 0)
+    ∷ reading (run nothing Nearest 63 0 0x40007FFFFFFFFFFFFFFF 0x00000000000000000000) (steps 2 0x7FFFC000000000000000 0 0)
+    ∷ reading (scale x87 0x00008000000000000000 (pos 1)) (scaled 2 0x7FFFC000000000000000 Exact)
+    ∷ reading (split x87 0x7FFF0000000000000000) (parts 2 0x7FFFC000000000000000 (pos 0))
     -- 3: a NaN, before an infinite dividend and a zero divisor
-    ∷ reading (call (divide binary16 Truncated 0xFC01 0x0000)) (value 3 0x7E00 0)
-    ∷ reading (call (divide binary32 Nearest 0x7F800000 0x7FC00001)) (value 3 0x7FC00000 0)
-    ∷ reading (call (divide binary64 Truncated 0xFFF8000000000000 0x3FF0000000000000)) (value 3 0x7FF8000000000000 0)
-    ∷ reading (call (step nothing Nearest 32 0x7FFF8000000000000000 0xFFFFA000000000000000)) (steps 3 0x7FFFC000000000000000 0 0)
-    ∷ reading (call (run nothing Truncated 32 9 0x7FFFC000000000000001 0x00000000000000000000)) (steps 3 0x7FFFC000000000000000 0 0)
-    ∷ reading (call (scale binary64 0x7FF0000000000001 (negsuc 0))) (scaled 3 0x7FF8000000000000 Exact)
-    ∷ reading (call (split binary32 0xFFC00000)) (parts 3 0x7FC00000 (pos 0))
+    ∷ reading (divide binary16 Truncated 0xFC01 0x0000) (value 3 0x7E00 0)
+    ∷ reading (divide binary32 Nearest 0x7F800000 0x7FC00001) (value 3 0x7FC00000 0)
+    ∷ reading (divide binary64 Truncated 0xFFF8000000000000 0x3FF0000000000000) (value 3 0x7FF8000000000000 0)
+    ∷ reading (step nothing Nearest 32 0x7FFF8000000000000000 0xFFFFA000000000000000) (steps 3 0x7FFFC000000000000000 0 0)
+    ∷ reading (run nothing Truncated 32 9 0x7FFFC000000000000001 0x00000000000000000000) (steps 3 0x7FFFC000000000000000 0 0)
+    ∷ reading (scale binary64 0x7FF0000000000001 (negsuc 0)) (scaled 3 0x7FF8000000000000 Exact)
+    ∷ reading (split binary32 0xFFC00000) (parts 3 0x7FC00000 (pos 0))
     -- 4: an infinite dividend, before a zero divisor; an infinity that is split
-    ∷ reading (call (divide binary32 Truncated 0xFF800000 0x00000000)) (value 4 0x7FC00000 0)
-    ∷ reading (call (divide binary16 Nearest 0x7C00 0x7C00)) (value 4 0x7E00 0)
-    ∷ reading (call (step nothing Truncated 40 0x7FFF8000000000000000 0x00000000000000000000)) (steps 4 0x7FFFC000000000000000 0 0)
-    ∷ reading (call (run nothing Nearest 40 0 0x7FFF8000000000000000 0x3FFF8000000000000000)) (steps 4 0x7FFFC000000000000000 0 0)
-    ∷ reading (call (split binary64 0xFFF0000000000000)) (parts 4 0x7FF8000000000000 (pos 0))
+    ∷ reading (divide binary32 Truncated 0xFF800000 0x00000000) (value 4 0x7FC00000 0)
+    ∷ reading (divide binary16 Nearest 0x7C00 0x7C00) (value 4 0x7E00 0)
+    ∷ reading (step nothing Truncated 40 0x7FFF8000000000000000 0x00000000000000000000) (steps 4 0x7FFFC000000000000000 0 0)
+    ∷ reading (run nothing Nearest 40 0 0x7FFF8000000000000000 0x3FFF8000000000000000) (steps 4 0x7FFFC000000000000000 0 0)
+    ∷ reading (split binary64 0xFFF0000000000000) (parts 4 0x7FF8000000000000 (pos 0))
     -- 5: a zero divisor, of a zero too
-    ∷ reading (call (divide binary64 Nearest 0x0000000000000001 0x8000000000000000)) (value 5 0x7FF8000000000000 0)
-    ∷ reading (call (divide binary16 Truncated 0x8000 0x0000)) (value 5 0x7E00 0)
-    ∷ reading (call (step nothing Nearest 63 0x3FFF8000000000000000 0x00000000000000000000)) (steps 5 0x7FFFC000000000000000 0 0)
-    ∷ reading (call (run nothing Truncated 63 4294967295 0x3FFF8000000000000000 0x00000000000000000000)) (steps 5 0x7FFFC000000000000000 0 0)
+    ∷ reading (divide binary64 Nearest 0x0000000000000001 0x8000000000000000) (value 5 0x7FF8000000000000 0)
+    ∷ reading (divide binary16 Truncated 0x8000 0x0000) (value 5 0x7E00 0)
+    ∷ reading (step nothing Nearest 63 0x3FFF8000000000000000 0x00000000000000000000) (steps 5 0x7FFFC000000000000000 0 0)
+    ∷ reading (run nothing Truncated 63 4294967295 0x3FFF8000000000000000 0x00000000000000000000) (steps 5 0x7FFFC000000000000000 0 0)
     -- 6: a size below 32 or above 63, before any operand
-    ∷ reading (call (step nothing Truncated 31 0x3FFF8000000000000000 0x3FFF8000000000000000)) (steps 6 0x7FFFC000000000000000 0 0)
-    ∷ reading (call (step nothing Nearest 64 0x00008000000000000000 0x00000000000000000000)) (steps 6 0x7FFFC000000000000000 0 0)
-    ∷ reading (call (run nothing Truncated 0 5 0x7FFFC000000000000001 0x3FFF8000000000000000)) (steps 6 0x7FFFC000000000000000 0 0)
-    ∷ reading (call (run nothing Nearest 4294967295 5 0x3FFF8000000000000000 0x3FFF8000000000000000)) (steps 6 0x7FFFC000000000000000 0 0)
+    ∷ reading (step nothing Truncated 31 0x3FFF8000000000000000 0x3FFF8000000000000000) (steps 6 0x7FFFC000000000000000 0 0)
+    ∷ reading (step nothing Nearest 64 0x00008000000000000000 0x00000000000000000000) (steps 6 0x7FFFC000000000000000 0 0)
+    ∷ reading (run nothing Truncated 0 5 0x7FFFC000000000000001 0x3FFF8000000000000000) (steps 6 0x7FFFC000000000000000 0 0)
+    ∷ reading (run nothing Nearest 4294967295 5 0x3FFF8000000000000000 0x3FFF8000000000000000) (steps 6 0x7FFFC000000000000000 0 0)
     -- 8: a zero that is split
-    ∷ reading (call (split binary16 0x8000)) (parts 8 0x7E00 (pos 0))
-    ∷ reading (call (split x87 0x00000000000000000000)) (parts 8 0x7FFFC000000000000000 (pos 0))
+    ∷ reading (split binary16 0x8000) (parts 8 0x7E00 (pos 0))
+    ∷ reading (split x87 0x00000000000000000000) (parts 8 0x7FFFC000000000000000 (pos 0))
     -- 9: a block that is not 16 bytes, before the size
-    ∷ reading (call (step (block 15) Truncated 31 0x7FFFC000000000000001 0x00000000000000000000)) (steps 9 0x7FFFC000000000000000 0 0)
-    ∷ reading (call (run (block 17) Nearest 63 5 0x3FFF8000000000000000 0x3FFF8000000000000000)) (steps 9 0x7FFFC000000000000000 0 0)
+    ∷ reading (step (block 15) Truncated 31 0x7FFFC000000000000001 0x00000000000000000000) (steps 9 0x7FFFC000000000000000 0 0)
+    ∷ reading (run (block 17) Nearest 63 5 0x3FFF8000000000000000 0x3FFF8000000000000000) (steps 9 0x7FFFC000000000000000 0 0)
     ∷ []
 
 -- answers at the edges of these rules
 unfoldable pub answered : List Reading
 answered =
     -- the sizes 32 and 63, a block of 16 bytes, and a budget of 0, which leaves the dividend
-    reading (call (step (block 16) Truncated 32 0x3FFF8000000000000000 0x3FFF8000000000000000)) (steps 0 0x00000000000000000000 1 1)
-    ∷ reading (call (step (block 16) Nearest 63 0x3FFF8000000000000000 0x3FFF8000000000000000)) (steps 0 0x00000000000000000000 1 1)
-    ∷ reading (call (run (block 16) Nearest 63 0 0x3FFF8000000000000000 0x3FFF8000000000000000)) (steps 7 0x3FFF8000000000000000 0 0)
+    reading (step (block 16) Truncated 32 0x3FFF8000000000000000 0x3FFF8000000000000000) (steps 0 0x00000000000000000000 1 1)
+    ∷ reading (step (block 16) Nearest 63 0x3FFF8000000000000000 0x3FFF8000000000000000) (steps 0 0x00000000000000000000 1 1)
+    ∷ reading (run (block 16) Nearest 63 0 0x3FFF8000000000000000 0x3FFF8000000000000000) (steps 7 0x3FFF8000000000000000 0 0)
     -- runs that are spent, and what one step more gives: 2^66 by 3 at size 63, with quotient bits, and 2^128 by 3 at size 32, without
-    ∷ reading (call (run nothing Truncated 63 1 0x40418000000000000000 0x4000C000000000000000)) (steps 7 0x40018000000000000000 4 1)
-    ∷ reading (call (run nothing Nearest 63 2 0x40418000000000000000 0x4000C000000000000000)) (steps 0 0x3FFF8000000000000000 5 2)
-    ∷ reading (call (run nothing Truncated 32 2 0x407F8000000000000000 0x4000C000000000000000)) (steps 7 0x403F8000000000000000 0 2)
-    ∷ reading (call (run nothing Nearest 32 3 0x407F8000000000000000 0x4000C000000000000000)) (steps 0 0x3FFF8000000000000000 5 3)
+    ∷ reading (run nothing Truncated 63 1 0x40418000000000000000 0x4000C000000000000000) (steps 7 0x40018000000000000000 4 1)
+    ∷ reading (run nothing Nearest 63 2 0x40418000000000000000 0x4000C000000000000000) (steps 0 0x3FFF8000000000000000 5 2)
+    ∷ reading (run nothing Truncated 32 2 0x407F8000000000000000 0x4000C000000000000000) (steps 7 0x403F8000000000000000 0 2)
+    ∷ reading (run nothing Nearest 32 3 0x407F8000000000000000 0x4000C000000000000000) (steps 0 0x3FFF8000000000000000 5 3)
     -- an infinite divisor
-    ∷ reading (call (divide binary16 Nearest 0xBC01 0x7C00)) (value 0 0xBC01 0)
-    ∷ reading (call (step nothing Truncated 50 0xC0DE8123456789ABCDEF 0xFFFF8000000000000000)) (steps 0 0xC0DE8123456789ABCDEF 0 1)
+    ∷ reading (divide binary16 Nearest 0xBC01 0x7C00) (value 0 0xBC01 0)
+    ∷ reading (step nothing Truncated 50 0xC0DE8123456789ABCDEF 0xFFFF8000000000000000) (steps 0 0xC0DE8123456789ABCDEF 0 1)
     -- zeros and infinities that are scaled
-    ∷ reading (call (scale binary16 0x8000 (pos 9))) (scaled 0 0x8000 Exact)
-    ∷ reading (call (scale binary64 0xFFF0000000000000 (negsuc 9999))) (scaled 0 0xFFF0000000000000 Exact)
+    ∷ reading (scale binary16 0x8000 (pos 9)) (scaled 0 0x8000 Exact)
+    ∷ reading (scale binary64 0xFFF0000000000000 (negsuc 9999)) (scaled 0 0xFFF0000000000000 Exact)
     -- -6 is -1.5 times 2^2; small denormals
-    ∷ reading (call (split binary32 0xC0C00000)) (parts 0 0xBFC00000 (pos 2))
-    ∷ reading (call (split binary16 0x0001)) (parts 0 0x3C00 (negsuc 23))
-    ∷ reading (call (split binary64 0x8000000000000003)) (parts 0 0xBFF8000000000000 (negsuc 1072))
-    ∷ reading (call (split x87 0x00000000000000000001)) (parts 0 0x3FFF8000000000000000 (negsuc 16444))
+    ∷ reading (split binary32 0xC0C00000) (parts 0 0xBFC00000 (pos 2))
+    ∷ reading (split binary16 0x0001) (parts 0 0x3C00 (negsuc 23))
+    ∷ reading (split binary64 0x8000000000000003) (parts 0 0xBFF8000000000000 (negsuc 1072))
+    ∷ reading (split x87 0x00000000000000000001) (parts 0 0x3FFF8000000000000000 (negsuc 16444))
     ∷ []
 
 -- ---- texts as bytes
