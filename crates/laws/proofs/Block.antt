@@ -6,6 +6,7 @@ use Prim.Native.Nat.{ℕ, _*_, _/_, _%_, _^_}
 use native.Mathlib.Nat.{mod-lt, div-one, div-add-mod', div-div-eq-div-mul}
 use lib.Dec.{lit<}
 use lib.ListN.{length}
+use Rattle.definitions.specs.Format.{words}
 use Rattle.definitions.specs.Numbers.{accepted}
 use Rattle.definitions.specs.Bytes.{bytesOf}
 use Rattle.definitions.specs.Reports.{Report}
@@ -20,6 +21,10 @@ byte i n = n / 2 ^ (8 * i) % 256
 -- a pattern's ten bytes are those of its two numbers
 value-bytes : (v : ℕ) → bytesOf 10 v ≡ bytesOf 8 (significandIn v) ++ bytesOf 2 (wordIn v)
 value-bytes v = ap (bytesOf 10) (sym (div-add-mod' v (2 ^ 64))) ∙ bytes-joined 8 2 (significandIn v) (wordIn v) (mod-lt v (lit< tt))
+
+-- [9.2] a pattern is its two numbers
+pub two-words : (v : ℕ) → words (wordIn v) (significandIn v) ≡ v
+two-words v = div-add-mod' v (2 ^ 64)
 
 -- [9.4] each of the 16 places
 pub block-layout : (r : Report ℕ)

@@ -86,6 +86,16 @@ module _ (f : List ℕ → List ℕ) (h : LineByLine f) where
 
 -- ---- one line: two laws that determine it, whether it has these parts or not
 
+-- all digits, one by one
+each-hex : (l : List ℕ) → allHex l ≡ true → (i : ℕ) → i < length l → isHex (getD l i 0) ≡ true
+each-hex [] h i p = clash (omega arith)
+each-hex (c ∷ l) h zero p = and-both (isHex c) (allHex l) h .0
+each-hex (c ∷ l) h (suc i) p = each-hex l (and-both (isHex c) (allHex l) h .1) i (omega arith)
+
+hex-each : (l : List ℕ) → ((i : ℕ) → i < length l → isHex (getD l i 0) ≡ true) → allHex l ≡ true
+hex-each [] h = refl
+hex-each (c ∷ l) h = rw (h 0 (omega arith)) (hex-each l (λ i p. h (suc i) (omega arith)))
+
 -- 16 hex digits, a space, 16 hex digits
 pub record Parts (line : List ℕ) : Type 0 where
   pub first : List ℕ
@@ -93,8 +103,8 @@ pub record Parts (line : List ℕ) : Type 0 where
   pub joined : line ≡ first ++ (32 ∷ second)
   pub first-length : length first ≡ 16
   pub second-length : length second ≡ 16
-  pub first-hex : allHex first ≡ true
-  pub second-hex : allHex second ≡ true
+  pub first-hex : (i : ℕ) → i < 16 → isHex (getD first i 0) ≡ true
+  pub second-hex : (i : ℕ) → i < 16 → isHex (getD second i 0) ≡ true
 
 pub well-formed : (line : List ℕ) → wellFormed line ≡ true → Parts line
 unfolding wellFormed
@@ -103,14 +113,16 @@ well-formed l w =
     let space = and-both (eqb (length l) 33 && allHex (take 16 l)) (eqb (getD l 16 0) 32) (second .0) in
     let first = and-both (eqb (length l) 33) (allHex (take 16 l)) (space .0) in
     let long = eqb-true (length l) 33 (first .0) in
+    let la : length (take 16 l) ≡ 16 = rw (length-take 16 l) (omega arith) in
+    let lb : length (drop 17 l) ≡ 16 = rw (length-drop 17 l) (omega arith) in
     record {
       first = take 16 l;
       second = drop 17 l;
       joined = split-at l 16 0 (omega arith) ∙ ap (λ (c : ℕ). take 16 l ++ (c ∷ drop 17 l)) (eqb-true (getD l 16 0) 32 (space .1));
-      first-length = rw (length-take 16 l) (omega arith);
-      second-length = rw (length-drop 17 l) (omega arith);
-      first-hex = first .1;
-      second-hex = second .1;
+      first-length = la;
+      second-length = lb;
+      first-hex = λ i h. each-hex (take 16 l) (first .1) i (rw la h);
+      second-hex = λ i h. each-hex (drop 17 l) (second .1) i (rw lb h);
     }
 
 -- back: a line put together, taken apart by places
@@ -126,7 +138,10 @@ module _ (a b : List ℕ) (la : length a ≡ 16) where
 
 pub parts-well-formed : (line : List ℕ) → Parts line → wellFormed line ≡ true
 parts-well-formed line p =
-    rw (p .joined) (joined-well-formed (p .first) (p .second) (p .first-length) (p .second-length) (p .first-hex) (p .second-hex))
+    rw (p .joined)
+    (joined-well-formed (p .first) (p .second) (p .first-length) (p .second-length)
+    (hex-each (p .first) (λ i h. p .first-hex i (rw (p .first-length) at h)))
+    (hex-each (p .second) (λ i h. p .second-hex i (rw (p .second-length) at h))))
 
 -- [10.1] the operands are what the two parts stand for
 pub parts-line : (line : List ℕ) (p : Parts line)
@@ -178,9 +193,10 @@ digit-written d h = go (ltb d 10) (ltb→lt d 10) (nltb→le d 10)
         record { upper = inr (omega arith, omega arith); hex = rw (up, no, low, high); back = rw (no, high) (omega arith) }
 
 -- the k low digits of a number
-all-hex : (k n : ℕ) → allHex (hexDigits k n) ≡ true
-all-hex zero n = refl
-all-hex (suc k) n = rw (digit-written (n / 16 ^ k % 16) (omega arith) .hex) (all-hex k n)
+all-hex : (k n i : ℕ) → i < k → isHex (getD (hexDigits k n) i 0) ≡ true
+all-hex zero n i h = clash (omega arith)
+all-hex (suc k) n zero h = digit-written (n / 16 ^ k % 16) (omega arith) .hex
+all-hex (suc k) n (suc i) h = all-hex k n i (omega arith)
 
 all-upper : (k n i : ℕ) → i < k → Upper (getD (hexDigits k n) i 0)
 all-upper zero n i h = clash (omega arith)
