@@ -6,7 +6,7 @@ use compare::lines::{self, BUFFER};
 use std::fs::{self, File};
 use std::io::{Read, Write};
 use std::os::unix::io::OwnedFd;
-use std::os::unix::net::UnixStream;
+use std::os::unix::net::{UnixDatagram, UnixStream};
 use std::process::{Child, ChildStdin, Command, Output, Stdio};
 use std::thread;
 use std::time::Duration;
@@ -143,6 +143,23 @@ fn feed(mut pipe: ChildStdin, mut input: &[u8]) {
         input = rest;
         thread::sleep(Duration::from_millis(1));
     }
+}
+
+/// Each read gets one line, and there are more of them than 16 bits can count. A read of nothing is
+/// the end.
+#[test]
+fn line_by_line() {
+    let input = vec![b'\n'; 66_000];
+    let (ours, theirs) = UnixDatagram::pair().unwrap();
+    let path = format!("{}/answers", env!("CARGO_TARGET_TMPDIR"));
+    let child = start(OwnedFd::from(theirs), File::create(&path).unwrap());
+    for line in input.chunks(1) {
+        ours.send(line).unwrap();
+    }
+    ours.send(b"").unwrap();
+    assert_eq!(ended(child), ["", ""]);
+    let told = told(&input, &fs::read(&path).unwrap());
+    assert_eq!(told, [0, 0, 0, 0, 66_000]);
 }
 
 #[test]
