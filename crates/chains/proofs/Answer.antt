@@ -1,6 +1,7 @@
--- The answers of step and run on x87 patterns: their numbers, what each adds, and what an accepted one tells. Assumes nothing.
-use mathlib.Core.Path.{_≡_, refl, sym, ap, subst}
-use mathlib.Core.Bool.{Bool, true, false, not, cond}
+-- The answers of step and run on x87 patterns: their numbers, what is claimed of each, and what an accepted one tells. Assumes nothing.
+use mathlib.Core.Path.{_≡_, refl, sym, ap, _∙_, subst}
+use mathlib.Core.Bool.{Bool, true, false, not, cond, _&&_}
+use mathlib.Core.Logic.{_⊎_, inl, inr, ⊎-elim}
 use mathlib.Core.List.{[], _∷_, _++_}
 use Prim.Native.Nat.{ℕ, zero, suc, _<_}
 use Rattle.digits.proofs.Tests.{clash, not-zero}
@@ -12,13 +13,13 @@ use Rattle.definitions.specs.Division.{Outcome, by, finish, dividendOf, divisor
 use Rattle.definitions.specs.Steps as Steps
 use Rattle.definitions.specs.Steps.{followed}
 use Rattle.definitions.specs.Reports.{Report, Lent, fitting, sized, calling, reportOf, stepReport, runReport}
-use Rattle.definitions.specs.Calls.{Call, step, run, answer, budgetOf, Adds, valueAt}
+use Rattle.definitions.specs.Calls.{Call, step, run, answer, budgetOf, taken, Gives, EachCall, valueAt}
 use Rattle.laws.proofs.Regular.{regular80}
 use Rattle.laws.proofs.RoundTrip.{read-written, read-held, written-read}
 use Rattle.laws.proofs.Division.{cut-held, finish-held}
 use Rattle.chains.proofs.Step.{step-cases, step-one}
 use Rattle.chains.proofs.Run.{run-one}
-use Rattle.chains.proofs.Spent.{run-report-spent}
+use Rattle.chains.proofs.Spent.{Judgement, refused, passed, result, run-report-spent}
 use Rattle.chains.proofs.Lists.{sizeOf, openNumber, callOutcome, Tells, Telling}
 
 abbrev pub lentOf : Call → Lent
@@ -51,12 +52,35 @@ answer-is κ (step l n) x y v w ex ey p =
 answer-is κ (run l n b) x y v w ex ey p =
     rw (ex, ey, number-finite l n v w 7 (not (Steps.run κ n b (by (w .count)) v .done)) p, cond-not)
 
--- [5.3] what a call adds, on all patterns
-pub answer-adds : (κ : Kind) (y : ℕ) (c : Call) (x : ℕ) → Adds (record { call = c; handed = x; report = answer κ y c x })
-unfolding answer stepReport runReport
-answer-adds κ y (step l n) x =
-    record { refused = λ e. (rw e, rw e); answered = λ e. rw e (step-one κ n (divisorOf (classOf x87 y)) (dividendOf (classOf x87 x))) }
-answer-adds κ y (run l n b) x = record { refused = λ e. (rw e, rw e); answered = λ e s. run-report-spent l κ n b x y s }
+-- so that its block and its size alone get it refused, where it has a number u for what has not finished
+both-accepted : (f s d : Bool) (u : ℕ) → accepted u ≡ true → accepted (cond f (cond s (cond d 0 u) 6) 9) ≡ f && s
+both-accepted true true true u e = refl
+both-accepted true true false u e = e
+both-accepted true false d u e = refl
+both-accepted false s d u e = refl
+
+number-taken : (c : Call) (d : Bool) → accepted (callNumber c d) ≡ taken c
+number-taken (step l n) d = both-accepted (fitting l) (sized n) d 1 refl
+number-taken (run l n b) d = both-accepted (fitting l) (sized n) d 7 refl
+
+-- an accepted number is 0, or the u of an outcome that has not finished
+number-given : {i z : Bool} {number : ℕ → ℕ} (u : ℕ) (d : Bool) → Judgement i z number → accepted (number (cond (not d) u 0)) ≡ true
+    → (number (cond (not d) u 0) ≡ 0) ⊎ (number (cond (not d) u 0) ≡ u)
+number-given u d (refused r a o s e) h = let f = sym (ap accepted (e (cond (not d) u 0))) ∙ h in clash (cc)
+number-given u true (passed i z e) h = inl (e 0)
+number-given u false (passed i z e) h = inr (e u)
+
+-- [5.1, 5.3] what an accepted call gives, on all patterns
+pub answer-gives : (κ : Kind) (y : ℕ) (c : Call) (x : ℕ) → accepted (answer κ y c x .number) ≡ true → Gives c (answer κ y c x)
+unfolding answer stepReport runReport first
+answer-gives κ y (step l n) x e =
+    let X = classOf x87 x in
+    let Y = classOf x87 y in
+    (number-given 1 (Steps.step κ n (divisorOf Y) (dividendOf X) .done) (result l n X Y) e, rw e (step-one κ n (divisorOf Y) (dividendOf X)))
+answer-gives κ y (run l n b) x e =
+    let X = classOf x87 x in
+    let Y = classOf x87 y in
+    ⊎-elim inl (λ s. inr (s, run-report-spent l κ n b x y s)) (number-given 7 (Steps.run κ n b (divisorOf Y) (dividendOf X) .done) (result l n X Y) e)
 
 -- ---- values stay representable, so that a pattern is read as the value that was written
 
@@ -130,3 +154,18 @@ answer-tells κ y w e p c x h =
     subst (λ (r : Report ℕ). accepted (r .number) ≡ true → Tells valueAt κ (w .count) c x r × State (r .value))
     (sym (answer-is κ c x y (valueAt x) w (h .read) e p))
     (number-tells κ (w .count) p (read-held x87 regular80 y w e) c x h (fitting (lentOf c)) (sized (sizeOf c)) refl)
+
+-- ---- what is claimed of each call
+
+module _ (κ : Kind) (y : ℕ) (w : Value) (ey : classOf x87 y ≡ finite w) (p : 0 < w .count) where
+  answer-taken : (c : Call) (x : ℕ) → State x → accepted (answer κ y c x .number) ≡ taken c
+  answer-taken c x h =
+      ap (λ (r : Report ℕ). accepted (r .number)) (answer-is κ c x y (valueAt x) w (h .read) ey p)
+      ∙ number-taken c (callOutcome κ (w .count) c (valueAt x) .done)
+
+  pub answer-each : (c : Call) (x : ℕ) → State x → EachCall κ y (record { call = c; handed = x; report = answer κ y c x })
+  unfolding answer stepReport runReport
+  answer-each (step l n) x h =
+      record { reported = refl; taken = answer-taken (step l n) x h; gives = answer-gives κ y (step l n) x; adds = λ e. (rw e, rw e) }
+  answer-each (run l n b) x h =
+      record { reported = refl; taken = answer-taken (run l n b) x h; gives = answer-gives κ y (run l n b) x; adds = λ e. (rw e, rw e) }

@@ -11,13 +11,13 @@ use Rattle.definitions.specs.declared.Kind.{Kind}
 use Rattle.definitions.specs.Division.{Outcome, by, finish}
 use Rattle.definitions.specs.Remainder.{quotientBits, remainderOf, remainder}
 use Rattle.definitions.specs.Steps as Steps
-use Rattle.definitions.specs.Reports.{Report, nothing, sized, reportOf}
-use Rattle.definitions.specs.Calls.{Call, run, answer, Made, made, answers, lastValue, finished, totalSteps, totalQuotient, totalBudget, Listed, EachAdds, valueAt, EveryList}
+use Rattle.definitions.specs.Reports.{Report, nothing, sized, reportOf, runReport}
+use Rattle.definitions.specs.Calls.{Call, run, answer, Made, made, answers, lastValue, finished, totalSteps, totalQuotient, totalBudget, Listed, EachCall, All, valueAt, EveryList}
 use Rattle.chains.proofs.Outcome.{sound-finished, sound-bound, sound-ends}
 use Rattle.chains.proofs.Exact.{accounts-exact, accounts-whole}
-use Rattle.chains.proofs.Made.{listed-made, each-adds, totals}
-use Rattle.chains.proofs.Lists.{ListTells, list-good, list-tells}
-use Rattle.chains.proofs.Answer.{answer-is, answer-adds, State, finite-written, written-value, written-state, answer-tells}
+use Rattle.chains.proofs.Made.{listed-made, totals}
+use Rattle.chains.proofs.Lists.{ListTells, list-good, list-each, list-tells}
+use Rattle.chains.proofs.Answer.{answer-is, State, finite-written, written-value, written-state, answer-tells, answer-each}
 
 -- the remainder in one call of two finite operands, the divisor not zero
 pub remainder-is : (κ : Kind) (x y : ℕ) (v w : Value) → classOf x87 x ≡ finite v → classOf x87 y ≡ finite w → 0 < w .count
@@ -31,7 +31,8 @@ abbrev runTells : Outcome → Report ℕ
 runTells r = record { number = cond (r .done) 0 7; value = patternOf x87 (finite (r .value)); quotient = quotientBits (r .whole); steps = r .steps }
 
 run-is : (κ : Kind) (n b x y : ℕ) (v w : Value) → classOf x87 x ≡ finite v → classOf x87 y ≡ finite w → 0 < w .count → sized n ≡ true
-    → answer κ y (run nothing n b) x ≡ runTells (Steps.run κ n b (by (w .count)) v)
+    → runReport nothing κ n b x y ≡ runTells (Steps.run κ n b (by (w .count)) v)
+unfolding answer
 run-is κ n b x y v w ex ey p z = answer-is κ (run nothing n b) x y v w ex ey p ∙ rw z (go (Steps.run κ n b (by (w .count)) v .done))
   where
     r : Outcome
@@ -44,21 +45,21 @@ run-is κ n b x y v w ex ey p z = answer-is κ (run nothing n b) x y v w ex ey p
 -- of whatever calls ts follow the four rules
 module _ (κ : Kind) (x y : ℕ) (w : Value) (cs : List Call) (ts : List (Made ℕ)) (listed : Listed (answer κ y) x cs ts) (sx : State x)
     (ey : classOf x87 y ≡ finite w) (p : 0 < w .count) where
-  adds : EachAdds ts
-  adds = each-adds (answer κ y) (answer-adds κ y) listed
+  each : All (EachCall κ y) ts
+  each = list-each valueAt State κ w (answer κ y) p (answer-tells κ y w ey p) (EachCall κ y) (answer-each κ y w ey p) listed sx
 
   told : ListTells valueAt κ w x (answers ts)
   told = list-tells valueAt State κ w (answer κ y) p (answer-tells κ y w ey p) listed sx
 
   -- the totals of all calls are what the accepted ones tell
   all-steps : totalSteps ts ≡ told .outcome .steps
-  all-steps = totals ts adds .steps ∙ told .steps
+  all-steps = totals κ y ts each .steps ∙ told .steps
 
   all-quotient : totalQuotient ts ≡ quotientBits (told .outcome .whole)
-  all-quotient = totals ts adds .quotient ∙ told .quotient
+  all-quotient = totals κ y ts each .quotient ∙ told .quotient
 
   all-done : finished ts ≡ told .outcome .done
-  all-done = totals ts adds .finished ∙ told .done
+  all-done = totals κ y ts each .finished ∙ told .done
 
   -- the last value's pattern
   last : (u : Value) → told .outcome .value ≡ u → patternOf x87 (finite u) ≡ lastValue x (answers ts)
@@ -72,7 +73,7 @@ module _ (κ : Kind) (x y : ℕ) (w : Value) (cs : List Call) (ts : List (Made �
       let m = w .count in
       record {
         listed = listed;
-        adds = adds;
+        each = each;
         counted = all-steps ∙ sym (told .links);
         bits = all-quotient ∙ ap quotientBits (sym (accounts-whole (told .account)));
         bound = rw all-steps (sound-bound κ m (valueAt x) r (told .sound));

@@ -15,7 +15,7 @@ use Rattle.definitions.specs.Remainder.{quotientModulus, quotientBits}
 use Rattle.definitions.specs.Steps as Steps
 use Rattle.definitions.specs.Steps.{followed, chain, partsSum}
 use Rattle.definitions.specs.Reports.{Report, sized}
-use Rattle.definitions.specs.Calls.{Call, step, run, Made, answers, lastValue, lastNumber, finished, totalSteps, totalQuotient, budgetOf, totalBudget, IsRun, Runs, Some, Listed, none, refused, ends, goesOn, callChain, listChain}
+use Rattle.definitions.specs.Calls.{Call, step, run, Made, answers, lastValue, lastNumber, finished, totalSteps, totalQuotient, budgetOf, totalBudget, IsRun, Runs, Some, Listed, none, refused, ends, goesOn, All, callChain, listChain}
 use Rattle.chains.proofs.Outcome.{Sound, sound-none, sound-unfinished, sound-followed}
 use Rattle.chains.proofs.Run.{run-resumed, sound-run, chain-length}
 use Rattle.chains.proofs.Exact.{Accounts, accounts-none, accounts-followed, chain-accounts, parts-append}
@@ -174,6 +174,14 @@ module _ {A : Type 0} (value : A → Value) (Good : A → Type 0) (κ : Kind) (w
   list-good (refused e l) g = rw e (list-good l g)
   list-good (ends {x} {c} e) g = rw e (t c x g (rw e) .1)
   list-good (goesOn {x} {c} e d l) g = rw e (list-good l (t c x g e .1))
+
+  -- what holds of every call on a state that is Good holds of each call
+  pub list-each : (P : Made A → Type 0) → ((c : Call) (x : A) → Good x → P (record { call = c; handed = x; report = f c x }))
+      → {x : A} {cs : List Call} {ts : List (Made A)} → Listed f x cs ts → Good x → All P ts
+  list-each P h none g = tt
+  list-each P h (refused {x} {c} e l) g = (h c x g, list-each P h l g)
+  list-each P h (ends {x} {c} e) g = (h c x g, tt)
+  list-each P h (goesOn {x} {c} e d l) g = (h c x g, list-each P h l (t c x g e .1))
 
   pub list-tells : {x : A} {cs : List Call} {ts : List (Made A)} → Listed f x cs ts → Good x → ListTells value κ w x (answers ts)
   unfolding answers

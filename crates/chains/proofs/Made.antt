@@ -1,4 +1,4 @@
--- The calls that a list makes, on whatever a state is: the rules that they follow, and that refused ones add nothing. Assumes nothing.
+-- The calls that a list makes: the rules that they follow, and that their totals are those of the accepted ones. Assumes nothing.
 use mathlib.Core.Path.{_≡_, refl, _∙_}
 use mathlib.Core.Bool.{Bool, true, false, cond, _||_}
 use mathlib.Core.List.{List, [], _∷_}
@@ -9,37 +9,30 @@ use borrow.Author.Tests.{eqb-true}
 use lib.Dec.{eqb}
 use Rattle.digits.proofs.Tests.{clash}
 use Rattle.definitions.specs.Numbers.{accepted}
+use Rattle.definitions.specs.declared.Kind.{Kind}
 use Rattle.definitions.specs.Remainder.{quotientModulus, quotientBits}
 use Rattle.definitions.specs.Reports.{Report}
-use Rattle.definitions.specs.Calls.{Call, Made, made, answers, finished, totalSteps, totalQuotient, Listed, none, refused, ends, goesOn, Adds, EachAdds}
+use Rattle.definitions.specs.Calls.{Call, Made, made, answers, finished, totalSteps, totalQuotient, Listed, none, refused, ends, goesOn, EachCall, All}
 
 -- [5.2, 5.4] the four rules
-pub listed-made : {A : Type 0} (f : Call → A → Report A) (cs : List Call) (x : A) → Listed f x cs (made f cs x)
+pub listed-made : (f : Call → ℕ → Report ℕ) (cs : List Call) (x : ℕ) → Listed f x cs (made f cs x)
 unfolding made
 listed-made f [] x = none
-listed-made {A} f (c ∷ cs) x = go (accepted (f c x .number)) (eqb (f c x .number) 0) refl refl (listed-made f cs)
+listed-made f (c ∷ cs) x = go (accepted (f c x .number)) (eqb (f c x .number) 0) refl refl (listed-made f cs)
   where
-    go : (a z : Bool) → accepted (f c x .number) ≡ a → eqb (f c x .number) 0 ≡ z → ((y : A) → Listed f y cs (made f cs y))
+    go : (a z : Bool) → accepted (f c x .number) ≡ a → eqb (f c x .number) 0 ≡ z → ((y : ℕ) → Listed f y cs (made f cs y))
         → Listed f x (c ∷ cs) (record { call = c; handed = x; report = f c x } ∷ cond z [] (made f cs (cond a (f c x .value) x)))
     go a true e d h = ends (eqb-true (f c x .number) 0 d)
     go true false e d h = goesOn e d (h (f c x .value))
     go false false e d h = refused e (h x)
 
--- [5.3] what each call adds
-pub each-adds : {A : Type 0} (f : Call → A → Report A) → ((c : Call) (x : A) → Adds (record { call = c; handed = x; report = f c x }))
-    → {x : A} {cs : List Call} {ts : List (Made A)} → Listed f x cs ts → EachAdds ts
-each-adds f h none = tt
-each-adds f h (refused {x} {c} e l) = (h c x, each-adds f h l)
-each-adds f h (ends {x} {c} e) = (h c x, tt)
-each-adds f h (goesOn {x} {c} e d l) = (h c x, each-adds f h l)
-
 -- the totals of all calls ts are those of the accepted ones us
-pub record Totals {A : Type 0} (ts us : List (Made A)) : Type 0 where
+pub record Totals (ts us : List (Made ℕ)) : Type 0 where
   pub steps : totalSteps ts ≡ totalSteps us
   pub quotient : totalQuotient ts ≡ totalQuotient us
   pub finished : finished ts ≡ finished us
 
-total-bits : {A : Type 0} (ts : List (Made A)) → quotientBits (totalQuotient ts) ≡ totalQuotient ts
+total-bits : (ts : List (Made ℕ)) → quotientBits (totalQuotient ts) ≡ totalQuotient ts
 unfolding totalQuotient
 total-bits [] = refl
 total-bits (t ∷ ts) = mod-mod (t .report .quotient + totalQuotient ts) quotientModulus
@@ -51,15 +44,15 @@ refused-some n = go (eqb n 0)
     go true e = clash (cc)
     go false e = refl
 
-pub totals : {A : Type 0} (ts : List (Made A)) → EachAdds ts → Totals ts (answers ts)
+pub totals : (κ : Kind) (y : ℕ) (ts : List (Made ℕ)) → All (EachCall κ y) ts → Totals ts (answers ts)
 unfolding answers totalSteps totalQuotient finished
-totals [] h = record { steps = refl; quotient = refl; finished = refl }
-totals {A} (t ∷ ts) h = go (accepted (t .report .number)) refl (totals ts (h .1))
+totals κ y [] h = record { steps = refl; quotient = refl; finished = refl }
+totals κ y (t ∷ ts) h = go (accepted (t .report .number)) refl (totals κ y ts (h .1))
   where
     go : (a : Bool) → accepted (t .report .number) ≡ a → Totals ts (answers ts) → Totals (t ∷ ts) (cond a (t ∷ answers ts) (answers ts))
     go true e g = record { steps = rw (g .steps); quotient = rw (g .quotient); finished = rw (g .finished) }
     go false e g =
-        let n = h .0 .refused e in
+        let n = h .0 .adds e in
         record {
           steps = omega (arith, n .0, g .steps);
           quotient = rw (n .1, zero-add) (total-bits ts ∙ g .quotient);
