@@ -52,7 +52,7 @@ answer-is κ (step l n) x y v w ex ey p =
 answer-is κ (run l n b) x y v w ex ey p =
     rw (ex, ey, number-finite l n v w 7 (not (Steps.run κ n b (by (w .count)) v .done)) p, cond-not)
 
--- so that its block and its size alone get it refused, where it has a number u for what has not finished
+-- so that its block and its size alone get it refused: 0 is accepted, and so is the number u of what has not finished
 both-accepted : (f s d : Bool) (u : ℕ) → accepted u ≡ true → accepted (cond f (cond s (cond d 0 u) 6) 9) ≡ f && s
 both-accepted true true true u e = refl
 both-accepted true true false u e = e

@@ -3,7 +3,7 @@
 use mathlib.Core.Path.{_≡_, refl, sym, ap, _∙_}
 use mathlib.Core.Bool.{Bool, true, false, cond}
 use mathlib.Core.List.{List, [], _∷_, _++_}
-use Prim.Native.Nat.{ℕ, zero, suc, _+_, _*_, _/_, _%_, _^_, _<_}
+use Prim.Native.Nat.{ℕ, zero, suc, _+_, _*_, _<_}
 use native.Mathlib.Omega.{arith}
 use lib.IntN.{ℤ, pos, natAbs, _+ℤ_, _*ℤ_, +ℤ-idl, +ℤ-idr, +ℤ-assoc, *ℤ-zero}
 use Rattle.definitions.specs.Class.{Value, signed, valueOf, combined}
@@ -11,8 +11,7 @@ use Rattle.definitions.specs.declared.Kind.{Kind}
 use Rattle.definitions.specs.Division.{Outcome, by, finish}
 use Rattle.definitions.specs.Steps.{cutAt, step, followed, run, Link, chain, signedPart, partsSum}
 use Rattle.laws.proofs.Division.{signed-mul, signed-add, rule}
-use Rattle.chains.proofs.Step.{step-cases, step-sign}
-use Rattle.chains.proofs.Outcome.{cut-sum}
+use Rattle.chains.proofs.Step.{step-cases, cut-sum, step-sign}
 
 -- x is the value v and the divisor y times p
 abbrev pub Exact : Value → Value → Value → ℤ → Type 0
@@ -31,10 +30,9 @@ pub cut-exact : (j : ℕ) (y x : Value) → ExactReply y x (cutAt j (y .count) x
 unfolding cutAt
 cut-exact j y x =
     let s = x .negative in
-    let M = y .count * 2 ^ j in
-    let q = x .count / M * 2 ^ j in
-    ap (signed s) (cut-sum (x .count) (y .count) j) ∙ signed-add s (x .count % M) (y .count * q)
-    ∙ ap (λ (z : ℤ). signed s (x .count % M) +ℤ z) (sym (signed-mul s (y .negative) (y .count) q))
+    let r = cutAt j (y .count) x in
+    ap (signed s) (cut-sum j (y .count) x) ∙ signed-add s (r .value .count) (y .count * r .whole)
+    ∙ ap (λ (z : ℤ). signed s (r .value .count) +ℤ z) (sym (signed-mul s (y .negative) (y .count) (r .whole)))
 
 pub step-exact : (κ : Kind) (n : ℕ) (y x : Value) → 0 < y .count → ExactReply y x (step κ n (by (y .count)) x)
 unfolding finish

@@ -2,7 +2,7 @@
 use mathlib.Core.Path.{_≡_, refl, sym, ap, _∙_, subst}
 use mathlib.Core.Bool.{Bool, true, false, cond}
 use Prim.Native.Nat.{ℕ, suc, _+_, _*_, _/_, _%_, _^_, _≤_, _<_}
-use native.Mathlib.Nat.{add-assoc, mod-add-div, mul-mod-left, add-mul-mod-self-left, add-mul-div-left, pow-suc, mul-assoc}
+use native.Mathlib.Nat.{add-assoc, mul-mod-left, add-mul-mod-self-left, add-mul-div-left, pow-suc, mul-assoc}
 use native.Mathlib.Omega.{arith}
 use Rattle.digits.proofs.Tests.{clash}
 use Rattle.definitions.specs.Class.{Value, gap}
@@ -11,7 +11,7 @@ use Rattle.definitions.specs.declared.Kind.the-variants.{Truncated, Nearest}
 use Rattle.definitions.specs.Division.{Outcome, by, roundsUp, finish, finishBy}
 use Rattle.definitions.specs.Steps.{cutAt, step, followed, mostSteps}
 use Rattle.definitions.specs.Reports.{sized}
-use Rattle.chains.proofs.Step.{excess, used-places, most-pos, most-falls, cut-size, step-cases}
+use Rattle.chains.proofs.Step.{excess, used-places, most-pos, most-falls, step-cases, cut-sum, cut-size}
 
 -- r, and where it has not finished s from its value
 abbrev pub continued : Outcome → Outcome → Outcome
@@ -94,17 +94,14 @@ sound-finish κ m x = record { value = refl; whole = refl; room = most-pos (x .c
 cut-even : (q j : ℕ) → 0 < j → q * 2 ^ j % 2 ≡ 0
 cut-even q (suc j) h = rw (pow-suc 2 j, ← mul-assoc q (2 ^ j) 2) (mul-mod-left _ _)
 
-pub cut-sum : (n m j : ℕ) → n ≡ n % (m * 2 ^ j) + m * (n / (m * 2 ^ j) * 2 ^ j)
-cut-sum n m j = omega (arith, mod-add-div n (m * 2 ^ j))
-
 pub sound-cut : (κ : Kind) (m j : ℕ) (x : Value) → 0 < m → 64 ≤ excess (x .count) m → 0 < j → j + 32 ≤ excess (x .count) m → Sound κ m x (cutAt j m x)
 unfolding cutAt
 sound-cut κ m j x p l o g =
     let n = x .count in
-    let f = cut-size n m j p in
+    let f = cut-size j m x p in
     record {
       sign = refl;
-      sum = cut-sum n m j;
+      sum = cut-sum j m x;
       even = cut-even (n / (m * 2 ^ j)) j o;
       room = most-falls n (n % (m * 2 ^ j)) m l (omega arith);
     }

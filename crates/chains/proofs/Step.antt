@@ -2,7 +2,7 @@
 use mathlib.Core.Path.{_≡_, refl, sym, ap, _∙_}
 use mathlib.Core.Bool.{Bool, true, false, cond}
 use Prim.Native.Nat.{ℕ, _+_, _-_, _*_, _/_, _%_, _^_, _≤_, _<_, max}
-use native.Mathlib.Nat.{lt-of-lt-of-le, le-of-lt, mod-lt, mul-pos}
+use native.Mathlib.Nat.{lt-of-lt-of-le, le-of-lt, mod-lt, mul-pos, mod-add-div, mul-mod-left}
 use native.Mathlib.Omega.{arith}
 use borrow.Author.Tests.{lt-ltb, ltb-true, ltb-false, leb-true}
 use lib.Dec.{ltb, leb}
@@ -61,6 +61,11 @@ step-cases P κ n m x f g = go (near D) refl
         let q = gap-far (x .count) m l in
         g e q (rw q l) (natAbs D - usedSize D n) refl
 
+-- [4.3] from a gap of 64 on it is a cut, at the place that the gap less the size gives
+pub step-cut : (κ : Kind) (n m : ℕ) (x : Value) → near (gap (x .count) m) ≡ false → step κ n (by m) x ≡ cutAt (natAbs (gap (x .count) m) - n) m x
+unfolding step stepBy
+step-cut κ n m x e = rw e
+
 pub step-done : (κ : Kind) (n m : ℕ) (x : Value) → step κ n (by m) x .done ≡ near (gap (x .count) m)
 unfolding finish finishBy cutAt
 step-done κ n m x = step-cases (λ r. r .done ≡ near (gap (x .count) m)) κ n m x (λ e. sym e) (λ e q l j i. sym e)
@@ -70,18 +75,31 @@ unfolding step finish finishBy cutAt
 step-one κ n unbounded x = refl
 step-one κ n (by m) x = step-cases (λ r. r .steps ≡ 1) κ n m x (λ e. refl) (λ e q l j i. refl)
 
--- what is left of a cut at the place j lies below m's place and j
-pub cut-size : (n m j : ℕ) → 0 < m → size (n % (m * 2 ^ j)) ≤ size m + j
-cut-size n m j h = size-le (n % (m * 2 ^ j)) (size m + j) (lt-of-lt-of-le (mod-lt n (mul-pos h (pow-pos j))) (le-of-lt (shl-lt (size m) j (size-lt m))))
+-- [4.3, 4.4] What a cut at the place j is, whatever the kind: it leaves less than m at that place, takes a whole number of m's there, and
+-- the two make up x.
+pub cut-below : (j m : ℕ) (x : Value) → 0 < m → cutAt j m x .value .count < m * 2 ^ j
+unfolding cutAt
+cut-below j m x h = mod-lt (x .count) (mul-pos h (pow-pos j))
+
+pub cut-multiple : (j m : ℕ) (x : Value) → cutAt j m x .whole % 2 ^ j ≡ 0
+unfolding cutAt
+cut-multiple j m x = mul-mod-left (x .count / (m * 2 ^ j)) (2 ^ j)
+
+pub cut-sum : (j m : ℕ) (x : Value) → x .count ≡ cutAt j m x .value .count + m * cutAt j m x .whole
+unfolding cutAt
+cut-sum j m x = omega (arith, mod-add-div (x .count) (m * 2 ^ j))
+
+-- so that what is left has no more digits than m at that place
+pub cut-size : (j m : ℕ) (x : Value) → 0 < m → size (cutAt j m x .value .count) ≤ size m + j
+cut-size j m x h = size-le (cutAt j m x .value .count) (size m + j) (lt-of-lt-of-le (cut-below j m x h) (le-of-lt (shl-lt (size m) j (size-lt m))))
 
 -- [4.5] the exponent of a partial value that is not zero is lower by at least n
 pub step-lower : (κ : Kind) (n m : ℕ) (x : Value) → 0 < m → sized n ≡ true → step κ n (by m) x .done ≡ false
     → size (step κ n (by m) x .value .count) + n ≤ size (x .count)
-unfolding cutAt
 step-lower κ n m x p z d =
     step-cases (λ r. size (r .value .count) + n ≤ size (x .count)) κ n m x
     (λ e. let f = sym d ∙ step-done κ n m x ∙ e in clash (cc))
-    (λ e q l j i. let b = sized-bounds n z in omega (arith, cut-size (x .count) m j p))
+    (λ e q l j i. let b = sized-bounds n z in omega (arith, cut-size j m x p))
 
 -- [4.5] a partial value has the sign of x, and a zero dividend finishes
 pub step-sign : (κ : Kind) (n m : ℕ) (x : Value) → step κ n (by m) x .done ≡ false → step κ n (by m) x .value .negative ≡ x .negative
