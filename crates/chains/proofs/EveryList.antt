@@ -3,28 +3,20 @@ use mathlib.Core.Path.{_≡_, refl, sym, ap, _∙_, subst}
 use mathlib.Core.Bool.{Bool, true, false, cond}
 use mathlib.Core.List.{List}
 use Prim.Native.Nat.{ℕ, _<_}
-use Rattle.digits.proofs.Tests.{not-zero}
 use Rattle.definitions.specs.Class.{Value, finite}
 use Rattle.definitions.specs.Format.{classOf, patternOf, patterns, x87}
-use Rattle.definitions.specs.Numbers.{first}
 use Rattle.definitions.specs.declared.Kind.{Kind}
 use Rattle.definitions.specs.Division.{Outcome, by, finish}
-use Rattle.definitions.specs.Remainder.{quotientBits, remainderOf, remainder}
+use Rattle.definitions.specs.Remainder.{quotientBits}
 use Rattle.definitions.specs.Steps as Steps
 use Rattle.definitions.specs.Reports.{Report, nothing, sized, reportOf, runReport}
 use Rattle.definitions.specs.Calls.{Call, run, answer, Made, made, answers, lastValue, finished, totalSteps, totalQuotient, totalBudget, Listed, EachCall, All, valueAt, EveryList}
+use Rattle.laws.proofs.Remainder.{remainder-is}
 use Rattle.chains.proofs.Outcome.{sound-finished, sound-bound, sound-ends}
 use Rattle.chains.proofs.Exact.{accounts-exact, accounts-whole}
-use Rattle.chains.proofs.Made.{listed-made, totals}
+use Rattle.chains.proofs.Made.{listed-made, finished-last, totals}
 use Rattle.chains.proofs.Lists.{ListTells, list-good, list-each, list-tells}
 use Rattle.chains.proofs.Answer.{answer-is, State, finite-written, written-value, written-state, answer-tells, answer-each}
-
--- the remainder in one call of two finite operands, the divisor not zero
-pub remainder-is : (κ : Kind) (x y : ℕ) (v w : Value) → classOf x87 x ≡ finite v → classOf x87 y ≡ finite w → 0 < w .count
-    → let r = finish κ (by (w .count)) v in
-    remainder x87 κ x y ≡ record { number = 0; value = patternOf x87 (finite (r .value)); quotient = quotientBits (r .whole) }
-unfolding remainder remainderOf first
-remainder-is κ x y v w ex ey p = rw (ex, ey, not-zero (w .count) p)
 
 -- what an accepted run reports
 abbrev runTells : Outcome → Report ℕ
@@ -76,11 +68,12 @@ module _ (κ : Kind) (x y : ℕ) (w : Value) (cs : List Call) (ts : List (Made �
         each = each;
         counted = all-steps ∙ sym (told .links);
         bits = all-quotient ∙ ap quotientBits (sym (accounts-whole (told .account)));
+        closed = finished-last (answer κ y) 7 refl listed;
         bound = rw all-steps (sound-bound κ m (valueAt x) r (told .sound));
         ends = λ l. all-done ∙ sound-ends κ m (valueAt x) r (told .sound) (rw all-steps at l);
         whole = λ f.
             let e = sound-finished κ m (valueAt x) r (told .sound) (sym all-done ∙ f) in
-            remainder-is κ x y (valueAt x) w (sx .read) ey p
+            remainder-is x87 κ x y (valueAt x) w (sx .read) ey p
             ∙ (λ i. record { number = 0; value = last (finish κ (by m) (valueAt x) .value) (e .value) i; quotient = (ap quotientBits (sym (e .whole)) ∙ sym all-quotient) i });
         exact = rw (told .reached) (accounts-exact (told .account));
         one = λ n rs s.

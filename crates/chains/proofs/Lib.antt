@@ -8,5 +8,6 @@ pub mod Lists
 pub mod Answer
 pub mod EveryList
 pub mod Continued
+pub mod Infinite
 pub mod Flags
 pub mod Small

@@ -1,5 +1,5 @@
 -- The calls that a list makes: the rules that they follow, and that their totals are those of the accepted ones. Assumes nothing.
-use mathlib.Core.Path.{_≡_, refl, _∙_}
+use mathlib.Core.Path.{_≡_, refl, sym, _∙_}
 use mathlib.Core.Bool.{Bool, true, false, cond, _||_}
 use mathlib.Core.List.{List, [], _∷_}
 use Prim.Native.Nat.{ℕ, _+_}
@@ -12,7 +12,7 @@ use Rattle.definitions.specs.Numbers.{accepted}
 use Rattle.definitions.specs.declared.Kind.{Kind}
 use Rattle.definitions.specs.Remainder.{quotientModulus, quotientBits}
 use Rattle.definitions.specs.Reports.{Report}
-use Rattle.definitions.specs.Calls.{Call, Made, made, answers, finished, totalSteps, totalQuotient, Listed, none, refused, ends, goesOn, EachCall, All}
+use Rattle.definitions.specs.Calls.{Call, Made, made, answers, lastNumber, finished, totalSteps, totalQuotient, Listed, none, refused, ends, goesOn, EachCall, All}
 
 -- [5.2, 5.4] the four rules
 pub listed-made : (f : Call → ℕ → Report ℕ) (cs : List Call) (x : ℕ) → Listed f x cs (made f cs x)
@@ -43,6 +43,15 @@ refused-some n = go (eqb n 0)
     go : (z : Bool) → z || eqb n 1 || eqb n 7 ≡ false → z ≡ false
     go true e = clash (cc)
     go false e = refl
+
+-- [5.4] a list has finished if its last accepted call gave 0; n is what there was before, and no 0
+pub finished-last : (f : Call → ℕ → Report ℕ) (n : ℕ) → eqb n 0 ≡ false → {x : ℕ} {cs : List Call} {ts : List (Made ℕ)} → Listed f x cs ts
+    → finished ts ≡ eqb (lastNumber n (answers ts)) 0
+unfolding finished lastNumber answers
+finished-last f n h none = sym h
+finished-last f n h (refused {x} {c} e l) = rw (e, refused-some (f c x .number) e) (finished-last f n h l)
+finished-last f n h (ends {x} {c} e) = rw e
+finished-last f n h (goesOn {x} {c} e d l) = rw (e, d) (finished-last f (f c x .number) d l)
 
 pub totals : (κ : Kind) (y : ℕ) (ts : List (Made ℕ)) → All (EachCall κ y) ts → Totals ts (answers ts)
 unfolding answers totalSteps totalQuotient finished

@@ -3,15 +3,15 @@
 use mathlib.Core.Path.{_≡_, refl}
 use mathlib.Core.Bool.{Bool, true, false, not, cond, _&&_, _||_, Bool·beq}
 use mathlib.Core.List.{List, [], _∷_, map}
-use Prim.Native.Nat.{ℕ, suc, _+_, _<_}
+use Prim.Native.Nat.{ℕ, zero, suc, _+_, _/_, _%_, _^_, _<_}
 use native.Mathlib.Omega.{arith}
 use borrow.Author.Tests.{le-leb, lt-leb}
 use lib.Dec.{leb, eqb}
 use lib.IntN.{ℤ, pos}
-use lib.ListN.{length}
-use Rattle.digits.proofs.Tests.{not-zero}
+use lib.ListN.{length, getD}
+use Rattle.digits.proofs.Tests.{clash, not-zero}
 use Rattle.definitions.specs.Class.{Value, Class, unsupported, nan, infinite, finite}
-use Rattle.definitions.specs.Format.{Format, x87, classOf, explicitClass, houseNan, leading, topField}
+use Rattle.definitions.specs.Format.{Format, x87, classOf, fieldsClass, houseNan, topField}
 use Rattle.definitions.specs.Numbers.{first, accepted, dividing, isUnsupported, isNan, isInfinite, isZero}
 use Rattle.definitions.specs.Division.{dividendOf, divisorOf}
 use Rattle.definitions.specs.Remainder.{remainder, remainderOf, refusedValue}
@@ -21,6 +21,8 @@ use Rattle.definitions.specs.Scale.{scaleReport, scaleOf, splitReport, s
 use Rattle.definitions.specs.Fold.{folding, dividingList}
 use Rattle.definitions.specs.Exports.{lending}
 use Rattle.definitions.specs.declared.Kind.{Kind}
+use Rattle.definitions.specs.declared.Layout.{Layout}
+use Rattle.definitions.specs.declared.Layout.the-variants.{Hidden, Explicit}
 use Rattle.definitions.specs.declared.Rounding.the-variants.{Exact}
 
 -- a refusal has its number, the refusal's value, and nothing else
@@ -47,8 +49,8 @@ refused-value f = refl
 some : (n : ℕ) → eqb (suc n) 0 ≡ false
 some n = not-zero (suc n) (omega arith)
 
--- one of each class: every class is one of these, for some sign and some count
-abbrev classes : Bool → ℕ → List Class
+-- one of each class; every class is among these, for some sign and some count
+abbrev pub classes : Bool → ℕ → List Class
 classes s n =
     unsupported
     ∷ nan
@@ -56,6 +58,22 @@ classes s n =
     ∷ finite (record { negative = s; count = suc n })
     ∷ finite (record { negative = s; count = 0 })
     ∷ []
+
+pub record Among (c : Class) : Type 0 where
+  pub sign : Bool
+  pub count : ℕ
+  pub place : ℕ
+  pub is : getD (classes sign count) place nan ≡ c
+
+pub every-class : (c : Class) → Among c
+every-class unsupported = record { sign = true; count = 0; place = 0; is = refl }
+every-class nan = record { sign = true; count = 0; place = 1; is = refl }
+every-class (infinite s) = record { sign = s; count = 0; place = 2; is = refl }
+every-class (finite v) = go (v .negative) (v .count)
+  where
+    go : (s : Bool) (n : ℕ) → Among (finite (record { negative = s; count = n }))
+    go s zero = record { sign = s; count = 0; place = 4; is = refl }
+    go s (suc n) = record { sign = s; count = n; place = 3; is = refl }
 
 -- the tests on operands
 pub class-tests : (s : Bool) (n : ℕ) → (map isUnsupported (classes s n) ≡ true ∷ false ∷ false ∷ false ∷ false ∷ [])
@@ -151,14 +169,35 @@ pub lent-blocks : (held : List ℕ) → fitting (lending held) ≡ eqb (length h
 lent-blocks held = refl
 
 -- [2.6] an x87 pattern is unsupported if its leading digit is there with the field 0, or missing with any other
-pub unsupported-patterns : (f : Format) (n : Bool) (e s : ℕ) → isUnsupported (explicitClass f n e s) ≡ Bool·beq (leb (leading f) s) (eqb e 0)
-unsupported-patterns f n e s = go (leb (leading f) s) (eqb e 0) (eqb e (topField f)) (eqb s (leading f)) _ _
+pub unsupported-patterns : (b : ℕ) → isUnsupported (classOf x87 b) ≡ Bool·beq (leb (2 ^ 63) (b % 2 ^ 64)) (eqb (b / 2 ^ 64 % 2 ^ 15) 0)
+unfolding classOf
+unsupported-patterns b = go (leb (2 ^ 63) s) (eqb e 0) (eqb e (topField x87)) (eqb s (2 ^ 63)) _ _ _
   where
-    go : (J z t i : Bool) (v w : Value)
+    s : ℕ
+    s = b % 2 ^ 64
+
+    e : ℕ
+    e = b / 2 ^ 64 % 2 ^ 15
+
+    go : (J z t i n : Bool) (v w : Value)
         → isUnsupported (cond z (cond J unsupported (finite v)) (cond J (cond t (cond i (infinite n) nan) (finite w)) unsupported)) ≡ Bool·beq J z
-    go true true t i v w = refl
-    go false true t i v w = refl
-    go true false true true v w = refl
-    go true false true false v w = refl
-    go true false false i v w = refl
-    go false false t i v w = refl
+    go true true t i n v w = refl
+    go false true t i n v w = refl
+    go true false true true n v w = refl
+    go true false true false n v w = refl
+    go true false false i n v w = refl
+    go false false t i n v w = refl
+
+-- and an interchange format has none
+hidden-supported : (l : Layout) → l ≡ Hidden → (f : Format) (n : Bool) (e s : ℕ) → isUnsupported (fieldsClass l f n e s) ≡ false
+hidden-supported Hidden h f n e s = go (eqb e (topField f)) (eqb s 0) _
+  where
+    go : (t i : Bool) (v : Value) → isUnsupported (cond t (cond i (infinite n) nan) (finite v)) ≡ false
+    go true true v = refl
+    go true false v = refl
+    go false i v = refl
+hidden-supported Explicit h f n e s = clash (cc)
+
+pub supported : (f : Format) → f .layout ≡ Hidden → (b : ℕ) → isUnsupported (classOf f b) ≡ false
+unfolding classOf
+supported f h b = hidden-supported (f .layout) h f _ _ _

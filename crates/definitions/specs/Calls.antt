@@ -163,6 +163,8 @@ pub record EveryList (κ : Kind) (x y : ℕ) (v w : Value) (cs : List Call) (ts 
   pub counted : totalSteps ts ≡ length (links κ w ts)
   -- [4.7, 5.5] the quotient bits are those of the sum of the exact parts, whether the list has finished or not
   pub bits : totalQuotient ts ≡ quotientBits (natAbs (partsSum w (links κ w ts)))
+  -- [5.4] it has finished if its last accepted call gave 0
+  pub closed : finished ts ≡ eqb (lastNumber 7 (answers ts)) 0
   -- [5.6]
   pub bound : totalSteps ts ≤ mostSteps (gap (v .count) (w .count))
   pub ends : mostSteps (gap (v .count) (w .count)) ≤ totalSteps ts → finished ts ≡ true

@@ -54,9 +54,8 @@ run κ n (suc b) d x =
     let r = followed s (run κ n b d (s .value)) in
     cond (s .done) s r
 
--- one step of a chain: its size, its dividend, and what it came to
+-- one step of a chain: its dividend, and what it came to
 pub record Link : Type 0 where
-  pub size : ℕ
   pub dividend : Value
   pub outcome : Outcome
 
@@ -67,7 +66,7 @@ chain κ n zero d x = []
 chain κ n (suc b) d x =
     let s = step κ n d x in
     let ls = chain κ n b d (s .value) in
-    record { size = n; dividend = x; outcome = s } ∷ cond (s .done) [] ls
+    record { dividend = x; outcome = s } ∷ cond (s .done) [] ls
 
 -- [4.10] the sum of the exact parts of a chain by the divisor y, each with the sign of its step
 abbrev pub signedPart : Value → Link → ℤ

@@ -14,7 +14,7 @@ use Rattle.definitions.specs.Division.{Divisor, dividendOf, divisorOf}
 use Rattle.definitions.specs.Remainder.{remainderOf, remainder, quotientBits, quotientModulus}
 use Rattle.definitions.specs.Fold.{dividingList, bad, resultAt, byteAt}
 use Rattle.definitions.specs.declared.Kind.{Kind}
-use Rattle.laws.proofs.Fold.{supported}
+use Rattle.definitions.proofs.Refusals.{supported}
 use Rattle.checks.proofs.Judged.{AcceptedDivisor, accepted-divisor}
 use Rattle.fold.specs.Places.{placeBy}
 use Rattle.fold.specs.declared.Place.{Place}
@@ -27,7 +27,7 @@ finite-class (infinite n) u g = clash (cc)
 finite-class (finite v) u g = refl
 
 pub good-finite : (x : ℕ) → bad x ≡ false → classOf binary64 x ≡ finite (dividendOf (classOf binary64 x))
-good-finite x = finite-class (classOf binary64 x) (supported x)
+good-finite x = finite-class (classOf binary64 x) (supported binary64 refl x)
 
 -- no quotient bits are the mark
 quotient-small : (q : ℕ) → quotientBits q < quotientModulus
@@ -51,7 +51,7 @@ accepts (finite v) y ux uy d = rw (uy, d .not-nan, d .not-zero)
 
 module _ (κ : Kind) (y x : ℕ) (d : first (dividingList (classOf binary64 y)) ≡ 0) where
   accepts-good : accepted (first (dividing (classOf binary64 x) (classOf binary64 y))) ≡ not (bad x)
-  accepts-good = accepts (classOf binary64 x) (classOf binary64 y) (supported x) (supported y) (accepted-divisor (classOf binary64 y) d)
+  accepts-good = accepts (classOf binary64 x) (classOf binary64 y) (supported binary64 refl x) (supported binary64 refl y) (accepted-divisor (classOf binary64 y) d)
 
   pub value-at : placeBy κ (divisorOf (classOf binary64 y)) x .value ≡ resultAt κ y x
   unfolding resultAt remainder remainderOf

@@ -6,19 +6,16 @@ use Prim.Native.Nat.{ℕ, _+_, _<_}
 use native.Mathlib.Omega.{arith}
 use borrow.Author.Tests.{eq-eqb, ne-eqb}
 use lib.Dec.{eqb, lit<}
-use lib.Ieee as Ieee
-use lib.Ieee.{ofBits}
 use lib.ListN.{length}
 use Rattle.digits.proofs.Tests.{clash}
 use Rattle.definitions.specs.Class.{Value, Class, unsupported, nan, infinite, finite}
 use Rattle.definitions.specs.Format.{binary64, classOf}
 use Rattle.definitions.specs.Numbers.{first, accepted, dividing, isUnsupported, isNan, isZero}
 use Rattle.definitions.specs.Division.{finish, dividendOf, divisorOf}
-use Rattle.definitions.specs.Remainder.{remainder, remainderOf, quotientBits}
+use Rattle.definitions.specs.Remainder.{remainder, remainderOf, quotientBits, quotientModulus}
 use Rattle.definitions.specs.Fold.{Folded, bad, badPlaces, byteAt, dividingList, foldList, resultAt}
 use Rattle.definitions.specs.declared.Kind.{Kind}
-use Rattle.definitions.proofs.Refusals.{folding-numbers}
-use Rattle.laws.proofs.Agrees.{Stands, stands}
+use Rattle.definitions.proofs.Refusals.{folding-numbers, supported}
 
 -- [8.3, 8.4] what the place of the dividend x holds: its remainder and quotient bits, or the marks of a NaN or of an infinity
 pub data Place (κ : Kind) (y x result byte : ℕ) : Type 0 where
@@ -37,16 +34,6 @@ pub data Places (κ : Kind) (y : ℕ) : List ℕ → List ℕ → List ℕ → T
 abbrev pub marks : List ℕ → ℕ
 marks [] = 0
 marks (b ∷ bs) = cond (eqb b 255) 1 0 + marks bs
-
--- binary64 has no unsupported pattern
-pub supported : (b : ℕ) → isUnsupported (classOf binary64 b) ≡ false
-supported b = go (classOf binary64 b) (stands Ieee.binary64 b)
-  where
-    go : (c : Class) → Stands Ieee.binary64 c (ofBits Ieee.binary64 b) → isUnsupported c ≡ false
-    go unsupported p = absurd p
-    go nan p = refl
-    go (infinite s) p = refl
-    go (finite v) p = refl
 
 -- the divisor of an accepted list
 abbrev Divides : Class → Type 0
@@ -67,23 +54,23 @@ passed equal y = go equal (isNan y) (isZero y)
 module _ (κ : Kind) (y x : ℕ) where
   placed : Divides (classOf binary64 y) → Place κ y x (resultAt κ y x) (byteAt κ y x)
   unfolding resultAt byteAt remainder remainderOf first
-  placed d = go (classOf binary64 x) refl (supported x)
+  placed d = go (classOf binary64 x) refl (supported binary64 refl x)
     where
       go : (c : Class) → classOf binary64 x ≡ c → isUnsupported c ≡ false → Place κ y x (resultAt κ y x) (byteAt κ y x)
       go unsupported e u = clash (cc)
-      go nan e u = nanMarked e (rw (e, supported y)) (rw e)
-      go (infinite s) e u = infinityMarked s e (rw (e, supported y, d .0)) (rw e)
-      go (finite v) e u = folded v e (rw (e, supported y, d .0, d .1))
+      go nan e u = nanMarked e (rw (e, supported binary64 refl y)) (rw e)
+      go (infinite s) e u = infinityMarked s e (rw (e, supported binary64 refl y, d .0)) (rw e)
+      go (finite v) e u = folded v e (rw (e, supported binary64 refl y, d .0, d .1))
 
   -- no quotient bits are the mark
-  pub quotient-small : remainder binary64 κ x y .quotient < 255
+  pub quotient-small : remainder binary64 κ x y .quotient < quotientModulus
   unfolding remainder remainderOf first
   quotient-small =
       let a = classOf binary64 x in
       let b = classOf binary64 y in
       go (accepted (first (dividing a b))) (finish κ (divisorOf b) (dividendOf a) .whole)
     where
-      go : (t : Bool) (q : ℕ) → cond t (quotientBits q) 0 < 255
+      go : (t : Bool) (q : ℕ) → cond t (quotientBits q) 0 < quotientModulus
       go true q = omega arith
       go false q = lit< tt
 
@@ -92,7 +79,7 @@ module _ (κ : Kind) (y x : ℕ) where
   unfolding byteAt
   marked-bad = go (bad x) _ quotient-small
     where
-      go : (b : Bool) (q : ℕ) → q < 255 → eqb (cond b 255 q) 255 ≡ b
+      go : (b : Bool) (q : ℕ) → q < quotientModulus → eqb (cond b 255 q) 255 ≡ b
       go true q h = refl
       go false q h = ne-eqb q 255 (λ e. omega arith)
 

@@ -12,6 +12,7 @@ pub mod Round
 pub mod Scaling
 pub mod Splitting
 pub mod Small
+pub mod Remainder
 pub mod Refusals
 pub mod Bytes
 pub mod Block
