@@ -1,13 +1,14 @@
 -- `settle` meets its contract, by whether the quotient goes up. Assumes nothing.
-use mathlib.Core.Path.{_≡_, refl, sym, _∙_}
-use mathlib.Core.Bool.{Bool, true, false, _&&_}
-use Prim.Native.Nat.{ℕ}
+use mathlib.Core.Path.{_≡_, refl, sym, ap, _∙_}
+use mathlib.Core.Bool.{Bool, true, false, not, _&&_}
+use Prim.Native.Nat.{ℕ, _-_}
 use native.Mathlib.Omega.{arith}
 use borrow.Author.Tests.{lt-ltb}
 use mir.Syntax.{w32}
 use mir.Val.{toZ, ofZ}
 use mir.ValLaws.{toZ-ofZ}
 use Rattle.definitions.specs.Division.{roundsUp}
+use Rattle.operands.specs.Operand.{normalOf}
 use Rattle.operands.specs.declared.Operand.{Operand}
 use Rattle.pairs.specs.declared.Left.{Left}
 use borrow.Author.Needs.{needs}
@@ -45,7 +46,7 @@ returns : tie.Need-returns
 returns c =
     let s = c .before .before .before .before in
     let up : roundsUp (s .args .kind) (s .args .left .quotient) (s .args .left .remainder) (s .args .divisor) ≡ true = sym (c .before .before .before .rounds-up .ensures) ∙ c .before .before .if1 .taken in
-    rw up (together (cc (c .before .normalise .ensures, back s)) (c .wrapping-add-u32 .ensures))
+    rw up (together (c .before .normalise .ensures ∙ ap (normalOf (not (s .args .negative)) (s .args .divisor - s .args .left .remainder)) (back s)) (c .wrapping-add-u32 .ensures))
 
 -- the sign and the quotient are found, however the code writes them: what is refused is a wrong one
 returns-2 : tie.Need-returns-2
