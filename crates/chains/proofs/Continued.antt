@@ -5,7 +5,6 @@ use Prim.Native.Nat.{ℕ, zero, suc, _+_, _%_}
 use native.Mathlib.Nat.{mod-add-mod, add-mod-mod}
 use native.Mathlib.Omega.{arith}
 use borrow.Author.Tests.{eqb-false}
-use lib.Dec.{eqb}
 use Rattle.digits.proofs.Tests.{clash}
 use Rattle.definitions.specs.Class.{Value, Class, unsupported, nan, infinite, finite}
 use Rattle.definitions.specs.Format.{Representable, classOf, patternOf, x87}

@@ -3,9 +3,7 @@ use mathlib.Core.Path.{_≡_, refl, sym, ap, _∙_}
 use mathlib.Core.Bool.{Bool, true, false, cond, _||_}
 use mathlib.Core.List.{List, _∷_}
 use Prim.Native.Nat.{ℕ, _<_}
-use native.Mathlib.Nat.{pos-of-ne-zero}
 use native.Mathlib.Omega.{arith}
-use borrow.Author.Tests.{eqb-false}
 use lib.Dec.{eqb, lit<}
 use lib.IntN.{ℤ}
 use Rattle.definitions.specs.Class.{Value, Class, unsupported, nan, infinite, finite}
@@ -106,15 +104,6 @@ pub record AcceptedPair (a b : Class) : Type 0 where
   pub divisor : AcceptedDivisor b
 
 module _ (b : Class) where
-  pub by-divisor : (P : Class → Type 0) → isUnsupported b ≡ false → AcceptedDivisor b → ((n : Bool) → P (infinite n)) → ((w : Value) → 0 < w .count → P (finite w)) → P b
-  by-divisor P u d f g = go b u (d .not-nan) (d .not-zero)
-    where
-      go : (c : Class) → isUnsupported c ≡ false → isNan c ≡ false → isZero c ≡ false → P c
-      go unsupported u n z = clash (cc)
-      go nan u n z = clash (cc)
-      go (infinite t) u n z = f t
-      go (finite w) u n z = g w (pos-of-ne-zero (eqb-false (w .count) 0 z))
-
   pub accepted-divisor : first (dividingList b) ≡ 0 → AcceptedDivisor b
   accepted-divisor e =
       let n = passes _ _ (lit< tt) e in
