@@ -2,3 +2,4 @@ pub mod Readings
 pub mod Order
 pub mod Refusals
 pub mod Samples
+pub mod Stems

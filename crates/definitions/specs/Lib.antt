@@ -14,6 +14,8 @@ pub mod Fold
 pub mod Bytes
 pub mod Block
 pub mod Line
+pub mod Difference
+pub mod Stem
 pub mod Table
 pub mod Samples
 pub mod Exports

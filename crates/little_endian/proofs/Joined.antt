@@ -7,9 +7,9 @@ use native.Mathlib.Omega.{arith}
 use lib.Dec.{lit<}
 use lib.ListN.{length, set, take, drop, length-drop}
 use lib.Seq.{sets, length-sets, sets-eq, take-add, drop-drop, length-take-le}
-use Rattle.definitions.specs.Bytes.{bytesOf}
+use Rattle.definitions.specs.Bytes.{bytesOf, loaded}
 use Rattle.laws.proofs.Bytes.{length-bytes, bytes-joined, number-joined}
-use Rattle.little_endian.specs.Stored.{stored, loaded}
+use Rattle.little_endian.specs.Stored.{stored}
 
 -- ---- stores
 

@@ -5,9 +5,9 @@ use Prim.Native.Nat.{ℕ, _+_, _%_, _^_, _≤_}
 use native.Mathlib.Omega.{arith}
 use lib.ListN.{length, take, drop, length-drop, take-append-drop}
 use lib.Seq.{take-at, drop-at, drop-drop, length-take-le}
-use Rattle.definitions.specs.Bytes.{bytesOf, ofBytes}
+use Rattle.definitions.specs.Bytes.{bytesOf, ofBytes, loaded}
 use Rattle.laws.proofs.Bytes.{AreBytes, length-bytes, of-bytes, bytes-of, take-bytes, drop-bytes}
-use Rattle.little_endian.specs.Stored.{stored, loaded}
+use Rattle.little_endian.specs.Stored.{stored}
 
 module _ (k at : ℕ) (l : List ℕ) (fits : at + k ≤ length l) where
   pub loaded-stored : (n : ℕ) → loaded k at (stored k at n l) ≡ n % 256 ^ k

@@ -3,7 +3,8 @@
 ghost use mathlib.Core.Path.{_≡_};
 ghost use Prim.Native.Nat.{_+_, _≤_};
 ghost use lib.ListN.{length};
-ghost use Rattle.little_endian.specs.Stored.{stored, loaded};
+ghost use Rattle.definitions.specs.Bytes.{loaded};
+ghost use Rattle.little_endian.specs.Stored.{stored};
 
 pub fn store2(bytes: &mut [u8], at: usize, value: u16)
     requires { ⌜ at + 2 ≤ length (now bytes) ⌝ }

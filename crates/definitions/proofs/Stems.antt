@@ -1,0 +1,65 @@
+-- Differences, files and folded points, computed from the definitions. Assumes nothing.
+use mathlib.Core.Path.{_≡_, refl}
+use mathlib.Core.Bool.{Bool, true, false}
+use mathlib.Core.List.{List, [], _∷_, _++_, map}
+use Prim.Native.Nat.{ℕ}
+use lib.Ieee.{size}
+use lib.ListN.{take, length}
+use Rattle.definitions.specs.Class.{gap}
+use Rattle.definitions.specs.Format.{binary64, classOf, patternOf, magnitude}
+use Rattle.definitions.specs.Numbers.{Check, first}
+use Rattle.definitions.specs.Division.{finish}
+use Rattle.definitions.specs.Remainder.{remainder}
+use Rattle.definitions.specs.Difference.{difference}
+use Rattle.definitions.specs.Stem.{Gauge, turn, roller, stem, opened, refused, judging, handing, pointAt, foldReading, foldPoint}
+
+-- ---- [11.8] x less y is z: signs and zeros, ties and what lies past them, denormals, the end of the range, infinities and NaNs
+pub record Row : Type 0 where
+  pub x : ℕ
+  pub y : ℕ
+  pub z : ℕ
+
+abbrev row : ℕ → ℕ → ℕ → Row
+row x y z = record { x = x; y = y; z = z }
+
+abbrev rows : List Row
+rows =
+    row 0x4008000000000000 0x3FF0000000000000 0x4000000000000000
+    ∷ row 0x3FF0000000000000 0x4008000000000000 0xC000000000000000
+    ∷ row 0xBFF0000000000000 0x3FF0000000000000 0xC000000000000000
+    ∷ row 0x3FF0000000000000 0xBFF0000000000000 0x4000000000000000
+    ∷ row 0x0000000000000000 0x4014000000000000 0xC014000000000000
+    ∷ row 0x4014000000000000 0x8000000000000000 0x4014000000000000
+    ∷ row 0x3FF0000000000000 0x3FF0000000000000 0x0000000000000000
+    ∷ row 0xBFF0000000000000 0xBFF0000000000000 0x0000000000000000
+    ∷ row 0x0000000000000000 0x0000000000000000 0x0000000000000000
+    ∷ row 0x8000000000000000 0x0000000000000000 0x8000000000000000
+    ∷ row 0x0000000000000000 0x8000000000000000 0x0000000000000000
+    ∷ row 0x8000000000000000 0x8000000000000000 0x0000000000000000
+    ∷ row 0x3FF0000000000000 0xBCA0000000000000 0x3FF0000000000000
+    ∷ row 0x3FF0000000000001 0xBCA0000000000000 0x3FF0000000000002
+    ∷ row 0x3FF0000000000000 0x3C90000000000000 0x3FF0000000000000
+    ∷ row 0x3FF0000000000000 0xBCA0000000000001 0x3FF0000000000001
+    ∷ row 0x3FF0000000000000 0x3C90000000000001 0x3FEFFFFFFFFFFFFF
+    ∷ row 0x3FF0000000000000 0x81A56E1FC2F8F359 0x3FF0000000000000
+    ∷ row 0x01A56E1FC2F8F359 0x3FF0000000000000 0xBFF0000000000000
+    ∷ row 0x3FF0000000000001 0x3FF0000000000000 0x3CB0000000000000
+    ∷ row 0x0010000000000000 0x0000000000000001 0x000FFFFFFFFFFFFF
+    ∷ row 0x0000000000000001 0x0000000000000002 0x8000000000000001
+    ∷ row 0x000FFFFFFFFFFFFF 0x8000000000000001 0x0010000000000000
+    ∷ row 0x7FEFFFFFFFFFFFFF 0xFFEFFFFFFFFFFFFF 0x7FF0000000000000
+    ∷ row 0xFFEFFFFFFFFFFFFF 0x7FEFFFFFFFFFFFFF 0xFFF0000000000000
+    ∷ row 0x7FEFFFFFFFFFFFFF 0xFC90000000000000 0x7FF0000000000000
+    ∷ row 0x7FEFFFFFFFFFFFFF 0xFC8FFFFFFFFFFFFF 0x7FEFFFFFFFFFFFFF
+    ∷ row 0x7FF0000000000000 0x3FF0000000000000 0x7FF0000000000000
+    ∷ row 0x3FF0000000000000 0x7FF0000000000000 0xFFF0000000000000
+    ∷ row 0x7FF0000000000000 0x7FF0000000000000 0x7FF8000000000000
+    ∷ row 0xFFF0000000000000 0x7FF0000000000000 0xFFF0000000000000
+    ∷ row 0xFFF0000000000001 0x3FF0000000000000 0x7FF8000000000000
+    ∷ row 0x3FF0000000000000 0x7FF8000000000123 0x7FF8000000000000
+    ∷ row 0x7FF0000000000000 0x7FFFFFFFFFFFFFFF 0x7FF8000000000000
+    ∷ []
+
+pub differences : map (λ (r : Row). difference binary64 (r .x) (r .y)) rows ≡ map (λ (r : Row). r .z) rows
+unfolding difference size classOf patternOf magnitude
+differences = refl
