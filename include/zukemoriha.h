@@ -6,15 +6,18 @@
  *
  * Rules for every function
  *
- *   - Every bit pattern is taken. A function always returns one of the numbers 0 to 9 below, and never traps.
+ *   - Every bit pattern is taken. A function always returns one of the numbers 0 to 15 below, and never traps.
  *   - 0, 1 and 7 are answers: everything that the function promises has been written. All other numbers are refusals: what was lent is
  *     as it was, byte for byte, *value, *quotient, *marked and the block included.
- *   - Where several refusals apply, the first in the order 9, 6, 2, 3, 4, 5, 8 is returned; 7 comes after them.
+ *   - Where several refusals apply, the first in the order 9, 6, 2, 3, 4, 5, 8 is returned; 7 comes after them. Stem files have an order
+ *     of their own (zk_stem_open).
  *   - kind: 0 is the truncated remainder (C's fmod, the processor's FPREM), any other number is the nearest one (C's remainder, IEEE 754,
  *     FPREM1).
  *   - The host's duty, which no function can check: each pointer is not null, is aligned for its type, and points to memory that holds
  *     what it is lent for, also where a length is 0; and no two lent places overlap.
- *   - No function keeps a pointer, uses a status word or a rounding mode, or has state: calls from many threads do not meet.
+ *   - No function keeps a pointer, asks for memory or has state: calls from many threads do not meet. Values are computed in integers, so
+ *     no rounding mode, flushing of denormals or unmasked exception of the host changes an answer, with one exception: zk_stem_open and
+ *     zk_stem_fold hold values as doubles for a moment, and would set off an unmasked denormal-operand exception.
  *
  * The archive is compiled for x86-64 Linux.
  *
@@ -47,7 +50,13 @@ enum zk_number {
     ZK_BAD_SIZE = 6,     /* step and run: the size is not from 32 to 63 */
     ZK_SPENT = 7,        /* run only: the budget is spent, the value reached is there; with budget 0 it is the dividend */
     ZK_ZERO_SPLIT = 8,   /* a zero was to be split */
-    ZK_BAD_LENGTH = 9    /* lists of unequal length, or a block that is not ZK_BLOCK_LENGTH bytes long */
+    ZK_BAD_LENGTH = 9,   /* lists of unequal length, or a block that is not ZK_BLOCK_LENGTH bytes long */
+    ZK_STEM_MARK = 10,    /* stem files: they do not begin with STM */
+    ZK_STEM_VERSION = 11, /* the version is not 1 */
+    ZK_STEM_KIND = 12,    /* the kind is neither ZK_TURN nor ZK_ROLLER */
+    ZK_STEM_COUNT = 13,   /* the count is above ZK_STEM_MOST */
+    ZK_STEM_LENGTH = 14,  /* the length is below that of a header, or is not what the count asks for */
+    ZK_STEM_GAUGE = 15    /* the period or the origin is not as zk_stem_open asks */
 };
 
 /* kind */
@@ -138,6 +147,39 @@ uint8_t zk_split80(uint64_t x, uint16_t xw, uint64_t *significand, uint16_t *sig
  */
 uint8_t zk_fold64(const uint64_t *x, size_t nx, uint64_t *results, size_t nr, uint8_t *quotients, size_t nq, uint64_t y, uint32_t kind,
                   size_t *marked);
+
+/*
+ * A stem file, all numbers little-endian:
+ *
+ *   byte  0 to 2   the letters S, T, M
+ *   byte  3 to 4   version, 1
+ *   byte  5        kind: ZK_TURN or ZK_ROLLER
+ *   byte  6 to 9   count of points, at most ZK_STEM_MOST
+ *   byte 10 to 17  period, binary64: finite and above zero
+ *   byte 18 to 25  origin, binary64: finite for a roller, all zero bytes for a turn
+ *   from byte 26   the points, 16 bytes each: reading, then radius, binary64
+ */
+#define ZK_TURN 0u
+#define ZK_ROLLER 1u
+#define ZK_STEM_MOST 4000u
+#define ZK_STEM_HEADER 26u
+#define ZK_STEM_POINT 16u
+
+/*
+ * Judges a whole file. On 0 *kind, *period and *origin get the gauge (the origin of a turn is 0), *start the place where the points begin
+ * and *count how many there are: they are file[*start] to file[*start + 16 * *count - 1]. The count is compared with the length and with
+ * nothing else: no byte past the length is read. Refuses with the first that applies of 14 (shorter than 26 bytes), 10, 11, 12, 13,
+ * 14 (the length is not 26 + 16 * count) and 15, and then writes nothing.
+ */
+uint8_t zk_stem_open(const uint8_t *file, size_t length, uint32_t *kind, uint64_t *period, uint64_t *origin, size_t *start, size_t *count);
+
+/*
+ * Folds one point in place: *reading becomes its truncated remainder by the period. From a roller's reading the origin is subtracted first,
+ * rounded once, ties to even. A reading that is NaN or infinite, or is infinite after that subtraction, becomes ZK_HOUSE_NAN64, with 0.
+ * A zero remainder has the sign of what was divided. The radius of a point stays as it is, so it is not passed.
+ * Returns 0, or refuses with 12 (a kind above 1), or 15 (a gauge that no file gives, a turn with an origin other than 0 among them).
+ */
+uint8_t zk_stem_fold(uint32_t kind, uint64_t period, uint64_t origin, uint64_t *reading);
 
 /* Between numbers of the language and patterns: the bits, nothing converted. */
 

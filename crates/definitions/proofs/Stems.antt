@@ -13,7 +13,7 @@ use Rattle.definitions.specs.Remainder.{remainder}
 use Rattle.definitions.specs.Difference.{difference}
 use Rattle.definitions.specs.Stem.{Gauge, turn, roller, stem, opened, refused, judging, handing, pointAt, foldReading, foldPoint}
 
--- ---- [11.8] x less y is z: signs and zeros, ties and what lies past them, denormals, the end of the range, infinities and NaNs
+-- ---- [11.9] x less y is z: signs and zeros, ties and what lies past them, denormals, the end of the range, infinities and NaNs
 pub record Row : Type 0 where
   pub x : ℕ
   pub y : ℕ

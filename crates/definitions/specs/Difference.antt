@@ -9,7 +9,7 @@ use Rattle.definitions.specs.Class.{Value, Class, unsupported, nan, infi
 use Rattle.definitions.specs.Format.{Format, classOf, patternOf, exponentOf}
 use Rattle.definitions.specs.Round.{round}
 
--- [11.8] x - y, exact; where nothing is left it is -0 only for -0 less +0
+-- [11.9] x - y, exact; where nothing is left it is -0 only for -0 less +0
 unfoldable pub exactDifference : Value → Value → Value
 exactDifference x y =
     let d = valueOf x -ℤ valueOf y in
@@ -20,11 +20,11 @@ unfoldable pub roundedTo : ℕ → ℕ → ℕ
 unfolding round
 roundedTo p n = let e = size n - p in round n e .quotient * 2 ^ e
 
--- [6.3] an exponent above the bias gives an infinity
+-- [11.9] an exponent above the bias gives an infinity
 unfoldable pub limited : Format → Bool → ℕ → Class
 limited f s n = cond (ltZ (pos (f .bias)) (exponentOf f n)) (infinite s) (finite (record { negative = s; count = n }))
 
--- [11.8] the difference of two values
+-- [11.9] the difference of two values
 unfoldable pub differenceValue : Format → Value → Value → Class
 unfolding exactDifference roundedTo limited
 differenceValue f x y = let d = exactDifference x y in limited f (d .negative) (roundedTo (f .precision) (d .count))

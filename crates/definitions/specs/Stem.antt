@@ -15,12 +15,12 @@ use Rattle.definitions.specs.Difference.{difference}
 
 -- ---- gauges and points, by the binary64 patterns of their values
 
--- [11.3] a turn with its period, or a roller with its period and its origin
+-- [11.2] a turn with its period, or a roller with its period and its origin
 pub data Gauge : Type 0 where
   turn : ℕ → Gauge
   roller : ℕ → ℕ → Gauge
 
--- [11.4] a reading and a radius
+-- [11.2] a reading and a radius
 pub record Point : Type 0 where
   pub reading : ℕ
   pub radius : ℕ
@@ -33,19 +33,19 @@ abbrev pub periodOf : Gauge → ℕ
 periodOf (turn p) = p
 periodOf (roller p o) = p
 
--- [11.6] finite and above zero
+-- [11.4] finite and above zero
 abbrev pub isPositive : Class → Bool
 isPositive unsupported = false
 isPositive nan = false
 isPositive (infinite n) = false
 isPositive (finite v) = not (v .negative) && not (eqb (v .count) 0)
 
--- [11.6] a gauge that is taken
+-- [11.4] a gauge that is taken
 unfoldable pub good : Gauge → Bool
 good (turn p) = isPositive (classOf binary64 p)
 good (roller p o) = isPositive (classOf binary64 p) && not (bad o)
 
--- [11.6] the same of a kind and two patterns, where a turn's origin is all zeros
+-- [11.4] the same of a kind and two patterns, where a turn's origin is all zeros
 unfoldable pub goodFields : ℕ → ℕ → ℕ → Bool
 unfolding good
 goodFields kind period origin = good (gaugeOf kind period origin) && (not (eqb kind 0) || eqb origin 0)
@@ -106,7 +106,7 @@ pub data Stem : Type 0 where
   opened : Gauge → List ℕ → Stem
   refused : ℕ → Stem
 
--- [11.7] the points are all that follows the header
+-- [11.7, 11.8] the points are all that follows the header
 unfoldable pub stem : List ℕ → Stem
 unfolding first goodFields
 stem file =
@@ -117,24 +117,24 @@ abbrev pub stemNumber : Stem → ℕ
 stemNumber (opened g points) = 0
 stemNumber (refused n) = n
 
--- [11.7] the part that is handed back, empty on a refusal
+-- [11.7, 11.8] the part that is handed back, empty on a refusal
 abbrev pub stemPoints : Stem → List ℕ
 stemPoints (opened g points) = points
 stemPoints (refused n) = []
 
--- [11.1, 11.4] the point at a place, counted from 0
+-- [11.1] the point at a place, counted from 0
 abbrev pub pointAt : List ℕ → ℕ → Point
 pointAt points i = record { reading = loaded 8 (pointLength * i) points; radius = loaded 8 (pointLength * i + 8) points }
 
 -- ---- the fold of a point
 
--- [11.8] a roller's readings have its origin subtracted first
+-- [11.9] a roller's readings have its origin subtracted first
 unfoldable pub shifted : Gauge → ℕ → ℕ
 unfolding difference
 shifted (turn p) x = x
 shifted (roller p o) x = difference binary64 x o
 
--- [11.9, 11.10] the truncated remainder by the period, and the house NaN where what is divided is no finite number
+-- [11.10, 11.11] the truncated remainder by the period, and the house NaN where what is divided is no finite number
 unfoldable pub foldReading : Gauge → ℕ → ℕ
 unfolding shifted remainder
 foldReading g x = let d = shifted g x in cond (bad d) (houseNan binary64) (remainder binary64 Truncated d (periodOf g) .value)
@@ -143,13 +143,13 @@ pub record FoldedPoint : Type 0 where
   pub number : ℕ
   pub point : Point
 
--- [11.9, 11.11] the radius is kept; a gauge that no file could give leaves the point as it is
+-- [11.10, 11.12] the radius is kept; a gauge that no file could give leaves the point as it is
 unfoldable pub foldPoint : Gauge → Point → FoldedPoint
 unfolding first good foldReading
 foldPoint g p =
     let n = first (check 15 (not (good g)) ∷ []) in
     record { number = n; point = cond (eqb n 0) (record { reading = foldReading g (p .reading); radius = p .radius }) p }
 
--- [11.12] what C hands over as a gauge is judged in this order
+-- [11.13] what C hands over as a gauge is judged in this order
 abbrev pub handing : ℕ → ℕ → ℕ → List Check
 handing kind period origin = check 12 (ltb 1 kind) ∷ check 15 (not (goodFields kind period origin)) ∷ []
