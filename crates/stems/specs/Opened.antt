@@ -1,0 +1,20 @@
+-- What the code answers of a file and of a place of its points. Nothing to believe: these only name the code's own values.
+use Prim.Native.Nat.{ℕ, _/_}
+use mathlib.Core.Bool.{cond}
+use mathlib.Core.List.{List}
+use lib.Dec.{leb}
+use lib.ListN.{length}
+use Rattle.definitions.specs.Stem.{Stem, opened, refused, pointLength, pointAt}
+use Rattle.gauges.specs.Held.{gaugeHeld, pointHeld}
+use Rattle.stems.specs.declared.StemAnswer.{StemAnswer}
+use Rattle.stems.specs.declared.StemAnswer.the-variants.{Opened, Refused}
+use Rattle.stems.specs.declared.PlacedPoint.{PlacedPoint}
+use Rattle.stems.specs.declared.PlacedPoint.the-variants.{At, Past}
+
+abbrev pub answerOf : Stem → StemAnswer
+answerOf (opened g points) = Opened (gaugeHeld g)
+answerOf (refused n) = Refused n
+
+-- a place that the part has no whole point for is past it
+abbrev pub placedOf : List ℕ → ℕ → PlacedPoint
+placedOf points i = cond (leb (length points / pointLength) i) Past (At (pointHeld (pointAt points i)))

@@ -1,0 +1,108 @@
+// Stem files: judged, opened, and their points taken out one by one. The count is compared with the length and with nothing else.
+use gauges::BAD_GAUGE;
+use gauges::Gauge;
+use gauges::Point;
+use gauges::gauge_of;
+use gauges::good_fields;
+use floats::float_of;
+use little_endian::load2;
+use little_endian::load4;
+use little_endian::load8;
+ghost use mathlib.Core.Path.{_≡_};
+ghost use Rattle.definitions.specs.Numbers.{first};
+ghost use Rattle.definitions.specs.Stem.{judging, stem, stemPoints};
+ghost use Rattle.stems.specs.Opened.{answerOf, placedOf};
+
+pub const HEADER_LENGTH: usize = 26;
+
+pub const POINT_LENGTH: usize = 16;
+
+// The most points that a file may declare.
+pub const POINT_LIMIT: u32 = 4000;
+
+const VERSION: u16 = 1;
+
+// What a file answers: its gauge, or the number of its refusal.
+pub enum StemAnswer {
+    Opened(Gauge),
+    Refused(u8),
+}
+
+// The point at a place of a file's points, if there is one.
+pub enum PlacedPoint {
+    At(Point),
+    Past,
+}
+
+// The letters S, T and M.
+fn has_mark(file: &[u8]) -> bool
+    requires { ⌜ headerLength ≤ length (now file) ⌝ }
+    ensures { λ r. ⌜ r ≡ eqb (fileMark (now (file .entry))) (ofBytes mark) ⌝ }
+{
+    file[0] == 0x53 && file[1] == 0x54 && file[2] == 0x4D
+}
+
+// 0, or the first check that applies.
+fn judge_stem(file: &[u8]) -> u8
+    ensures { λ r. ⌜ r ≡ first (judging (now (file .entry))) ⌝ }
+{
+    if file.len() < HEADER_LENGTH {
+        return 14;
+    }
+    if !has_mark(file) {
+        return 10;
+    }
+    if load2(file, 3) != VERSION {
+        return 11;
+    }
+    let kind = file[5];
+    if 1 < kind {
+        return 12;
+    }
+    let count = load4(file, 6);
+    if POINT_LIMIT < count {
+        return 13;
+    }
+    if file.len() != HEADER_LENGTH + POINT_LENGTH * (count as usize) {
+        return 14;
+    }
+    if !good_fields(kind as u32, load8(file, 10), load8(file, 18)) {
+        return BAD_GAUGE;
+    }
+    0
+}
+
+pub fn open_stem(file: &[u8]) -> StemAnswer
+    ensures { λ r. ⌜ r ≡ answerOf (stem (now (file .entry))) ⌝ }
+{
+    let number = judge_stem(file);
+    if number != 0 {
+        return StemAnswer::Refused(number);
+    }
+    StemAnswer::Opened(gauge_of(file[5] as u32, load8(file, 10), load8(file, 18)))
+}
+
+// The part of the file that holds the points, empty if the file is refused.
+pub fn points_of(file: &[u8]) -> &[u8]
+    ensures { λ r. ⌜ now r ≡ stemPoints (stem (now (file .entry))) ⌝ }
+{
+    if judge_stem(file) != 0 {
+        return &file[0..0];
+    }
+    &file[HEADER_LENGTH..file.len()]
+}
+
+// The point at a place of such a part.
+pub fn point_at(points: &[u8], place: usize) -> PlacedPoint
+    ensures { λ r. ⌜ r ≡ placedOf (now (points .entry)) place ⌝ }
+{
+    if points.len() / POINT_LENGTH <= place {
+        return PlacedPoint::Past;
+    }
+    let at = POINT_LENGTH * place;
+    let point = Point {
+        reading: float_of(load8(points, at)),
+        radius: float_of(load8(points, at + 8)),
+    };
+    PlacedPoint::At(point)
+}
