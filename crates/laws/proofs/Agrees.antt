@@ -171,7 +171,7 @@ class-agrees g (finite x) (finite y) v w hx hy p q = go (eq-zero-or-pos (y .coun
         divided (ours g) x y b
         ∙ writes g (finite (finishBy Truncated (y .count) x .value)) (rem g v w) (rem-stands g x y v w b (hx x refl) (hy y refl) p q)
 
-ours-regular : (g : Ieee.Format) → Regular (ours g)
+pub ours-regular : (g : Ieee.Format) → Regular (ours g)
 ours-regular Ieee.binary32 = regular32
 ours-regular Ieee.binary64 = regular64
 

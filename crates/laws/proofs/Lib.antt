@@ -9,6 +9,7 @@ pub mod Range
 pub mod Division
 pub mod Agrees
 pub mod Round
+pub mod Subtraction
 pub mod Scaling
 pub mod Splitting
 pub mod Small
