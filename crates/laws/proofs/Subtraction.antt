@@ -2,37 +2,37 @@
 use mathlib.Core.Path.{_≡_, refl, sym, ap, _∙_}
 use mathlib.Core.Bool.{Bool, true, false, not, cond, _&&_, Bool·beq}
 use Prim.Native.Nat.{ℕ, zero, suc, _+_, _-_, _*_, _/_, _%_, _^_, _≤_, _<_, compare, Ordering, Ordering·lt, Ordering·eq, Ordering·gt}
-use native.Mathlib.Nat.{add-mul, mul-comm, mul-assoc, mul-right-comm, mul-pos, mul-div-cancel, lt-of-lt-of-le}
+use native.Mathlib.Nat.{add-mul, mul-assoc, mul-right-comm, mul-pos, mul-div-cancel, lt-of-lt-of-le}
 use native.Mathlib.Numerals.{add-one}
 use native.Mathlib.Omega.{arith}
 use borrow.Author.Tests.{le-ltb, lt-ltb, ltb-true, ltb-false, leb-true, leb-false, eqb-true, eqb-false}
-use lib.Dec.{T, ltb, leb, eqb, eqb·suc-zero, leb→le, nleb→lt, eqb→eq, isLe, isEq}
-use lib.IntN.{ℤ, pos, negsuc, negℤ, natAbs, _-ℤ_, negℤ-negℤ, negℤ-+ℤ, +ℤ-comm}
+use lib.Dec.{ltb, eqb, eqb·suc-zero, isLe, isEq}
+use lib.IntN.{ℤ, pos, negsuc, negℤ, natAbs, negℤ-negℤ, negℤ-+ℤ, +ℤ-comm}
 use lib.Signed.{ltZ}
 use lib.Pow.{pow-pos, pow-mono}
 use lib.Ieee as Ieee
 use lib.Ieee.{Float, fin, inf, prec, emax, low, up, down, size, nearest, odd, units, sum, sub, ofBits, toBits}
 use lib.Ieee.Digits.{size-lt, size-reaches}
 use lib.Ieee.Fits.{two, down-pos, round-is}
-use lib.Ieee.Exact.{HasValue, units-val}
+use lib.Ieee.Exact.{units-val}
 use lib.Ieee.Nearest.{closest, closest-same}
 use lib.Ieee.Scale.{round-same}
 use Rattle.digits.proofs.Common.{sub-scale, ltb-scale}
 use Rattle.definitions.specs.Class.{Value, Class, unsupported, nan, infinite, finite}
-use Rattle.definitions.specs.Format.{Format, binary32, binary64, reach, exponentOf, classOf, patternOf}
+use Rattle.definitions.specs.Format.{binary32, binary64, reach, classOf}
 use Rattle.definitions.specs.Round.{round}
 use Rattle.definitions.specs.Difference.{exactDifference, roundedTo, limited, differenceValue, differenceClass, difference}
-use Rattle.laws.proofs.Range.{exponent-above}
 use Rattle.laws.proofs.Gap.{sub-cases}
+use Rattle.laws.proofs.Range.{exponent-above}
 use Rattle.laws.proofs.Division.{rounds-up-once}
 use Rattle.laws.proofs.Agrees.{ours, ours-regular, Stands, stands, writes}
 
--- ---- the toolchain's rounding of a count
+-- ---- a count rounded
 
--- both round to the nearest whole number, a tie to the even one
+-- both go to the nearest whole number, and at a tie to the even one
 closest-is : (n k : ℕ) → closest n (2 ^ k) ≡ round n k .quotient
 unfolding round
-closest-is n k = rw (rounds-up-once q r d) (go (compare (r * 2) d) refl)
+closest-is n k = rw (rounds-up-once q r d) (go (compare (r * 2) d) refl (ltb d (r * 2 + q % 2)) refl)
   where
     d : ℕ
     d = 2 ^ k
@@ -43,16 +43,15 @@ closest-is n k = rw (rounds-up-once q r d) (go (compare (r * 2) d) refl)
     r : ℕ
     r = n % d
 
-    go : (o : Ordering) → compare (r * 2) d ≡ o → nearest q o ≡ cond (ltb d (r * 2 + q % 2)) (q + 1) q
-    go Ordering·lt e = rw (le-ltb d (r * 2 + q % 2) (let ne = eqb-false (r * 2) d (ap isEq e) in omega (arith, leb-true (r * 2) d (ap isLe e)))) refl
-    go Ordering·eq e = tie (ltb d (r * 2 + q % 2)) refl
-      where
-        tie : (t : Bool) → ltb d (r * 2 + q % 2) ≡ t → q + q % 2 ≡ cond t (q + 1) q
-        tie true h = omega (arith, eqb-true (r * 2) d (ap isEq e), ltb-true d (r * 2 + q % 2) h)
-        tie false h = omega (arith, eqb-true (r * 2) d (ap isEq e), ltb-false d (r * 2 + q % 2) h)
-    go Ordering·gt e = rw (lt-ltb d (r * 2 + q % 2) (omega (arith, leb-false (r * 2) d (ap isLe e)))) (sym (add-one q))
+    go : (o : Ordering) → compare (r * 2) d ≡ o → (u : Bool) → ltb d (r * 2 + q % 2) ≡ u → nearest q o ≡ cond u (q + 1) q
+    go Ordering·lt e true h = let ne = eqb-false (r * 2) d (ap isEq e) in omega (arith, leb-true (r * 2) d (ap isLe e), ltb-true d (r * 2 + q % 2) h)
+    go Ordering·lt e false h = refl
+    go Ordering·eq e true h = omega (arith, eqb-true (r * 2) d (ap isEq e), ltb-true d (r * 2 + q % 2) h)
+    go Ordering·eq e false h = omega (arith, eqb-true (r * 2) d (ap isEq e), ltb-false d (r * 2 + q % 2) h)
+    go Ordering·gt e true h = sym (add-one q)
+    go Ordering·gt e false h = omega (arith, leb-false (r * 2) d (ap isLe e), ltb-false d (r * 2 + q % 2) h)
 
--- an infinity from the same count on
+-- both are infinite from the same count on
 units-stand : (g : Ieee.Format) (s : Bool) (q k : ℕ) → Stands g (limited (ours g) s (q * 2 ^ k)) (units g s q k)
 unfolding limited units
 units-stand g s q k = rw (exponent-above (ours g) (ours-regular g) n) (go (ltb (reach (ours g)) (size n)) refl)
@@ -60,104 +59,103 @@ units-stand g s q k = rw (exponent-above (ours g) (ours-regular g) n) (go (ltb (
     n : ℕ
     n = q * 2 ^ k
 
-    go : (t : Bool) → ltb (reach (ours g)) (size n) ≡ t
-        → Stands g (cond t (infinite s) (finite (record { negative = s; count = n }))) (cond (ltb n (2 ^ (low g + suc (emax g)))) (odd (suc (prec g)) s q k (low g)) (inf s))
-    go true e = rw (le-ltb n (2 ^ (low g + suc (emax g))) (size-reaches n (low g + suc (emax g)) (omega (arith, two g, ltb-true (reach (ours g)) (size n) e)))) refl
-    go false e =
-        units-val g s q k (lt-of-lt-of-le (size-lt n) (pow-mono (omega (arith, two g, ltb-false (reach (ours g)) (size n) e))))
+    top : ℕ
+    top = low g + suc (emax g)
 
--- a count rounded once
+    go : (t : Bool) → ltb (reach (ours g)) (size n) ≡ t
+        → Stands g (cond t (infinite s) (finite (record { negative = s; count = n }))) (cond (ltb n (2 ^ top)) (odd (suc (prec g)) s q k (low g)) (inf s))
+    go true e = rw (le-ltb n (2 ^ top) (size-reaches n top (omega (arith, two g, ltb-true (reach (ours g)) (size n) e))))
+    go false e = units-val g s q k (lt-of-lt-of-le (size-lt n) (pow-mono (omega (arith, two g, ltb-false (reach (ours g)) (size n) e))))
+
 round-stands : (g : Ieee.Format) (s : Bool) (n : ℕ) → Stands g (limited (ours g) s (roundedTo (prec g) n)) (Ieee.round g s n (2 ^ low g))
 unfolding roundedTo
 round-stands g s n =
     let L = 2 ^ low g in
     let k = size n - prec g in
-    let c : closest (n * L) (L * 2 ^ k) ≡ round n k .quotient =
-        closest-same (n * L) (L * 2 ^ k) n (2 ^ k) (mul-pos (pow-pos (low g)) (pow-pos k)) (pow-pos k) (mul-assoc n L (2 ^ k)) ∙ closest-is n k in
-    rw (round-is g s n L, mul-div-cancel n (pow-pos (low g)), c) (units-stand g s (round n k .quotient) k)
+    let c = closest-same (n * L) (L * 2 ^ k) n (2 ^ k) (mul-pos (pow-pos (low g)) (pow-pos k)) (pow-pos k) (mul-assoc n L (2 ^ k)) in
+    rw (round-is g s n L, mul-div-cancel n (pow-pos (low g)), c, closest-is n k) (units-stand g s (round n k .quotient) k)
 
 -- ---- the exact difference
 
--- a fraction's sum in other units
-sum-same : (g : Ieee.Format) (s t : Bool) (a b c n m l : ℕ) → 0 < c → 0 < l → a * l ≡ n * c → b * l ≡ m * c → sum g s a t b c ≡ sum g s n t m l
-unfolding sum
-sum-same g s t a b c n m l pc pl p q =
-    let less : ltb a b ≡ ltb n m = sym (ltb-scale a b l pl) ∙ rw (p, q) (ltb-scale n m c pc) in
-    let more : ltb b a ≡ ltb m n = sym (ltb-scale b a l pl) ∙ rw (p, q) (ltb-scale m n c pc) in
-    let plus : (a + b) * l ≡ (n + m) * c = add-mul a b l ∙ rw (p, q) (sym (add-mul n m c)) in
-    let minus : (a - b) * l ≡ (n - m) * c = sym (sub-scale a b l) ∙ rw (p, q) (sub-scale n m c) in
-    let back : (b - a) * l ≡ (m - n) * c = sym (sub-scale b a l) ∙ rw (p, q) (sub-scale m n c) in
-    rw (less, more, round-same g s (a + b) c (n + m) l pc pl plus, round-same g t (b - a) c (m - n) l pc pl back, round-same g (s && ltb m n) (a - b) c (n - m) l pc pl minus) refl
-
--- of counts it is the exact sum, rounded
 abbrev value : Bool → ℕ → Value
 value s n = record { negative = s; count = n }
 
-abbrev exactSum : Bool → ℕ → Bool → ℕ → Value
-exactSum s n t m = cond (Bool·beq s t) (value s (n + m)) (cond (ltb n m) (value t (m - n)) (value (s && ltb m n) (n - m)))
+-- ±n and ±m added, as the toolchain has it
+abbrev added : Bool → ℕ → Bool → ℕ → Value
+added s n t m = cond (Bool·beq s t) (value s (n + m)) (cond (ltb n m) (value t (m - n)) (value (s && ltb m n) (n - m)))
 
-abbrev roundValue : Ieee.Format → Value → ℕ → Float
-roundValue g v c = Ieee.round g (v .negative) (v .count) c
+-- a whole number with its sign, and with the sign r if it is zero
+abbrev signedBy : Bool → ℤ → Value
+signedBy r d = value (cond (eqb (natAbs d) 0) r (ltZ d (pos 0))) (natAbs d)
 
-sum-is : (g : Ieee.Format) (s : Bool) (n : ℕ) (t : Bool) (m c : ℕ) → sum g s n t m c ≡ roundValue g (exactSum s n t m) c
-unfolding sum
-sum-is g s n t m c = go (Bool·beq s t) (ltb n m)
-  where
-    go : (same less : Bool)
-        → cond same (Ieee.round g s (n + m) c) (cond less (Ieee.round g t (m - n) c) (Ieee.round g (s && ltb m n) (n - m) c))
-        ≡ roundValue g (cond same (value s (n + m)) (cond less (value t (m - n)) (value (s && ltb m n) (n - m)))) c
-    go true less = refl
-    go false true = refl
-    go false false = refl
+by-pos : (n : ℕ) → signedBy false (pos n) ≡ value false n
+by-pos zero = refl
+by-pos (suc n) = rw (eqb·suc-zero n, le-ltb (suc n) 0 (omega arith))
 
--- the sign of a difference d, by r where nothing is left
-abbrev valueSigned : Bool → ℤ → Value
-valueSigned r d = value (cond (eqb (natAbs d) 0) r (ltZ d (pos 0))) (natAbs d)
+by-negsuc : (r : Bool) (k : ℕ) → signedBy r (negsuc k) ≡ value true (suc k)
+by-negsuc r k = rw (eqb·suc-zero k)
 
-signed-pos : (n : ℕ) → valueSigned false (pos n) ≡ value false n
-signed-pos zero = refl
-signed-pos (suc n) = rw (eqb·suc-zero n, le-ltb (suc n) 0 (omega arith)) refl
+by-neg : (n : ℕ) → signedBy true (negℤ (pos n)) ≡ value true n
+by-neg zero = refl
+by-neg (suc n) = by-negsuc true n
 
-signed-negsuc : (r : Bool) (k : ℕ) → valueSigned r (negsuc k) ≡ value true (suc k)
-signed-negsuc r k = rw (eqb·suc-zero k) refl
-
-signed-neg : (n : ℕ) → valueSigned true (negℤ (pos n)) ≡ value true n
-signed-neg zero = refl
-signed-neg (suc n) = signed-negsuc true n
-
-exact-is : (s t : Bool) (n m : ℕ) → exactDifference (value s n) (value t m) ≡ exactSum s n (not t) m
+exact-is : (s t : Bool) (n m : ℕ) → exactDifference (value s n) (value t m) ≡ added s n (not t) m
 unfolding exactDifference
-exact-is false true n m = rw (negℤ-negℤ (pos m)) (signed-pos (n + m))
-exact-is true false n m = rw (← negℤ-+ℤ (pos n) (pos m)) (signed-neg (n + m))
+exact-is false true n m = rw (negℤ-negℤ (pos m)) (by-pos (n + m))
+exact-is true false n m = rw (← negℤ-+ℤ (pos n) (pos m)) (by-neg (n + m))
 exact-is false false n m =
-    sub-cases (λ d. valueSigned false d ≡ exactSum false n true m) n m (λ h. rw (le-ltb n m h) (signed-pos (n - m)))
-    (λ k e. let i : m - n ≡ suc k = omega arith in rw (lt-ltb n m (omega arith), i) (signed-negsuc false k))
+    sub-cases (λ d. signedBy false d ≡ added false n true m) n m (λ h. rw (le-ltb n m h) (by-pos (n - m)))
+    (λ k e. let i : m - n ≡ suc k = omega arith in rw (lt-ltb n m (omega arith), i) (by-negsuc false k))
 exact-is true true n m =
     rw (negℤ-negℤ (pos m), +ℤ-comm (negℤ (pos n)) (pos m))
-    (sub-cases (λ d. valueSigned false d ≡ exactSum true n false m) m n (λ h. signed-pos (m - n) ∙ rw (le-ltb m n h) (go (ltb n m) refl h))
-    (λ k e. let i : n - m ≡ suc k = omega arith in rw (le-ltb n m (omega arith), lt-ltb m n (omega arith), i) (signed-negsuc false k)))
+    (sub-cases (λ d. signedBy false d ≡ added true n false m) m n (λ h. by-pos (m - n) ∙ rw (le-ltb m n h) (go (ltb n m) refl h))
+    (λ k e. let i : n - m ≡ suc k = omega arith in rw (le-ltb n m (omega arith), lt-ltb m n (omega arith), i) (by-negsuc false k)))
   where
     go : (t : Bool) → ltb n m ≡ t → n ≤ m → value false (m - n) ≡ cond t (value false (m - n)) (value false (n - m))
     go true e h = refl
-    go false e h = let i : m - n ≡ n - m = omega (arith, ltb-false n m e) in rw i refl
+    go false e h = let i : m - n ≡ n - m = omega (arith, ltb-false n m e) in rw i
+
+-- ---- fractions over c, and the counts of 1 / l that they are
+module _ (g : Ieee.Format) (c l : ℕ) (pc : 0 < c) (pl : 0 < l) where
+  less-same : (a n b m : ℕ) → a * l ≡ n * c → b * l ≡ m * c → ltb a b ≡ ltb n m
+  less-same a n b m p q = sym (ltb-scale a b l pl) ∙ rw (p, q) (ltb-scale n m c pc)
+
+  minus-same : (s : Bool) (a n b m : ℕ) → a * l ≡ n * c → b * l ≡ m * c → Ieee.round g s (a - b) c ≡ Ieee.round g s (n - m) l
+  minus-same s a n b m p q = round-same g s (a - b) c (n - m) l pc pl (sym (sub-scale a b l) ∙ rw (p, q) (sub-scale n m c))
+
+  plus-same : (s : Bool) (a n b m : ℕ) → a * l ≡ n * c → b * l ≡ m * c → Ieee.round g s (a + b) c ≡ Ieee.round g s (n + m) l
+  plus-same s a n b m p q = round-same g s (a + b) c (n + m) l pc pl (add-mul a b l ∙ rw (p, q) (sym (add-mul n m c)))
+
+  sum-is : (s t : Bool) (a n b m : ℕ) → a * l ≡ n * c → b * l ≡ m * c
+      → sum g s a t b c ≡ Ieee.round g (added s n t m .negative) (added s n t m .count) l
+  unfolding sum
+  sum-is s t a n b m p q =
+      rw (less-same a n b m p q, less-same b m a n q p, plus-same s a n b m p q, minus-same t b m a n q p, minus-same (s && ltb m n) a n b m p q)
+      (go (Bool·beq s t) (ltb n m))
+    where
+      go : (same less : Bool) →
+          let v : Value = cond same (value s (n + m)) (cond less (value t (m - n)) (value (s && ltb m n) (n - m))) in
+          cond same (Ieee.round g s (n + m) l) (cond less (Ieee.round g t (m - n) l) (Ieee.round g (s && ltb m n) (n - m) l))
+          ≡ Ieee.round g (v .negative) (v .count) l
+      go true less = refl
+      go false true = refl
+      go false false = refl
 
 -- ---- by what the operands stand for
 
-value-stands : (g : Ieee.Format) (x y : Value) (v w : Float) → Stands g (finite x) v → Stands g (finite y) w → Stands g (differenceValue (ours g) x y) (sub g v w)
+value-stands : (g : Ieee.Format) (x y : Value) (v w : Float) → Stands g (finite x) v → Stands g (finite y) w
+    → Stands g (differenceValue (ours g) x y) (sub g v w)
 unfolding differenceValue sub
 value-stands g x y (fin s m e) (fin t n d) p q =
     let L = 2 ^ low g in
     let D = exactDifference x y in
-    let r : sub g (fin s m e) (fin t n d) ≡ roundValue g D L =
-        sum-same g s (not t) (m * up e * down d) (n * up d * down e) (down e * down d) (x .count) (y .count) L (mul-pos (down-pos e) (down-pos d)) (pow-pos (low g))
-        (mul-right-comm (m * up e) (down d) L ∙ ap (λ (z : ℕ). z * down d) (p .1) ∙ mul-assoc (x .count) (down e) (down d))
-        (mul-right-comm (n * up d) (down e) L ∙ ap (λ (z : ℕ). z * down e) (q .1) ∙ mul-right-comm (y .count) (down d) (down e) ∙ mul-assoc (y .count) (down e) (down d))
-        ∙ sum-is g s (x .count) (not t) (y .count) L
-        ∙ rw (p .0, q .0) (ap (λ (z : Value). roundValue g z L) (sym (exact-is (x .negative) (y .negative) (x .count) (y .count)))) in
-    rw r (round-stands g (D .negative) (D .count))
+    let r =
+    sum-is g (down e * down d) L (mul-pos (down-pos e) (down-pos d)) (pow-pos (low g)) s (not t) (m * up e * down d) (x .count) (n * up d * down e) (y .count)
+    (mul-right-comm (m * up e) (down d) L ∙ ap (λ (z : ℕ). z * down d) (p .1) ∙ mul-assoc (x .count) (down e) (down d))
+    (mul-right-comm (n * up d) (down e) L ∙ ap (λ (z : ℕ). z * down e) (q .1) ∙ mul-right-comm (y .count) (down d) (down e) ∙ mul-assoc (y .count) (down e) (down d)) in
+    rw (r, p .0, q .0, ← exact-is (x .negative) (y .negative) (x .count) (y .count)) (round-stands g (D .negative) (D .count))
 
-infinities-stand : (g : Ieee.Format) (s t : Bool)
-    → Stands g (cond (Bool·beq s t) nan (infinite s)) (cond (Bool·beq s (not t)) (inf s) Ieee.nan)
+infinities-stand : (g : Ieee.Format) (s t : Bool) → Stands g (cond (Bool·beq s t) nan (infinite s)) (cond (Bool·beq s (not t)) (inf s) Ieee.nan)
 infinities-stand g true true = refl
 infinities-stand g true false = refl
 infinities-stand g false true = refl
@@ -166,25 +164,25 @@ infinities-stand g false false = refl
 class-stands : (g : Ieee.Format) (X Y : Class) (v w : Float) → Stands g X v → Stands g Y w → Stands g (differenceClass (ours g) X Y) (sub g v w)
 unfolding differenceClass sub
 class-stands g unsupported Y v w p q = absurd p
-class-stands g nan Y v w p q = rw p refl
+class-stands g nan Y v w p q = rw p
 class-stands g (infinite s) unsupported v w p q = absurd q
-class-stands g (infinite s) nan v w p q = rw (p, q) refl
+class-stands g (infinite s) nan v w p q = rw (p, q)
 class-stands g (infinite s) (infinite t) v w p q = rw (p, q) (infinities-stand g s t)
-class-stands g (infinite s) (finite y) v (fin t n d) p q = rw p refl
+class-stands g (infinite s) (finite y) v (fin t n d) p q = rw p
 class-stands g (finite x) unsupported v w p q = absurd q
-class-stands g (finite x) nan (fin s m e) w p q = rw q refl
-class-stands g (finite x) (infinite t) (fin s m e) w p q = rw q refl
+class-stands g (finite x) nan (fin s m e) w p q = rw q
+class-stands g (finite x) (infinite t) (fin s m e) w p q = rw q
 class-stands g (finite x) (finite y) v w p q = value-stands g x y v w p q
 
--- every two patterns
-pub difference-agrees : (g : Ieee.Format) (x y : ℕ) → difference (ours g) x y ≡ toBits g (sub g (ofBits g x) (ofBits g y))
+-- the pattern that the difference is written as is the one that the toolchain writes for its own, a NaN and a zero's sign too
+pub difference-ieee : (g : Ieee.Format) (x y : ℕ) → difference (ours g) x y ≡ toBits g (sub g (ofBits g x) (ofBits g y))
 unfolding difference
-difference-agrees g x y =
+difference-ieee g x y =
     writes g (differenceClass (ours g) (classOf (ours g) x) (classOf (ours g) y)) (sub g (ofBits g x) (ofBits g y))
     (class-stands g (classOf (ours g) x) (classOf (ours g) y) (ofBits g x) (ofBits g y) (stands g x) (stands g y))
 
-pub difference32 : (x y : ℕ) → difference binary32 x y ≡ toBits Ieee.binary32 (sub Ieee.binary32 (ofBits Ieee.binary32 x) (ofBits Ieee.binary32 y))
-difference32 = difference-agrees Ieee.binary32
+pub difference-ieee32 : (x y : ℕ) → difference binary32 x y ≡ toBits Ieee.binary32 (sub Ieee.binary32 (ofBits Ieee.binary32 x) (ofBits Ieee.binary32 y))
+difference-ieee32 = difference-ieee Ieee.binary32
 
-pub difference64 : (x y : ℕ) → difference binary64 x y ≡ toBits Ieee.binary64 (sub Ieee.binary64 (ofBits Ieee.binary64 x) (ofBits Ieee.binary64 y))
-difference64 = difference-agrees Ieee.binary64
+pub difference-ieee64 : (x y : ℕ) → difference binary64 x y ≡ toBits Ieee.binary64 (sub Ieee.binary64 (ofBits Ieee.binary64 x) (ofBits Ieee.binary64 y))
+difference-ieee64 = difference-ieee Ieee.binary64
