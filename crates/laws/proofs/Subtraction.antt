@@ -1,8 +1,8 @@
--- The difference of two patterns of binary32 and binary64 is the toolchain's own `sub` of IEEE 754 values, for every two patterns. Assumes nothing.
+-- The difference of two patterns of binary32 or binary64 is the toolchain's own `sub` of IEEE 754 values, for every two. Assumes nothing.
 use mathlib.Core.Path.{_≡_, refl, sym, ap, _∙_}
 use mathlib.Core.Bool.{Bool, true, false, not, cond, _&&_, Bool·beq}
 use Prim.Native.Nat.{ℕ, zero, suc, _+_, _-_, _*_, _/_, _%_, _^_, _≤_, _<_, compare, Ordering, Ordering·lt, Ordering·eq, Ordering·gt}
-use native.Mathlib.Nat.{add-mul, mul-assoc, mul-right-comm, mul-pos, mul-div-cancel, lt-of-lt-of-le}
+use native.Mathlib.Nat.{add-mul, mul-comm, mul-assoc, mul-right-comm, mul-pos, mul-div-cancel, lt-of-lt-of-le}
 use native.Mathlib.Numerals.{add-one}
 use native.Mathlib.Omega.{arith}
 use borrow.Author.Tests.{le-ltb, lt-ltb, ltb-true, ltb-false, leb-true, leb-false, eqb-true, eqb-false}
@@ -27,6 +27,9 @@ use Rattle.laws.proofs.Range.{exponent-above}
 use Rattle.laws.proofs.Division.{rounds-up-once}
 use Rattle.laws.proofs.Agrees.{ours, ours-regular, Stands, stands, writes}
 
+abbrev value : Bool → ℕ → Value
+value s n = record { negative = s; count = n }
+
 -- ---- a count rounded
 
 -- both go to the nearest whole number, and at a tie to the even one
@@ -44,7 +47,9 @@ closest-is n k = rw (rounds-up-once q r d) (go (compare (r * 2) d) refl (ltb d (
     r = n % d
 
     go : (o : Ordering) → compare (r * 2) d ≡ o → (u : Bool) → ltb d (r * 2 + q % 2) ≡ u → nearest q o ≡ cond u (q + 1) q
-    go Ordering·lt e true h = let ne = eqb-false (r * 2) d (ap isEq e) in omega (arith, leb-true (r * 2) d (ap isLe e), ltb-true d (r * 2 + q % 2) h)
+    go Ordering·lt e true h =
+        let ne = eqb-false (r * 2) d (ap isEq e) in
+        omega (arith, leb-true (r * 2) d (ap isLe e), ltb-true d (r * 2 + q % 2) h)
     go Ordering·lt e false h = refl
     go Ordering·eq e true h = omega (arith, eqb-true (r * 2) d (ap isEq e), ltb-true d (r * 2 + q % 2) h)
     go Ordering·eq e false h = omega (arith, eqb-true (r * 2) d (ap isEq e), ltb-false d (r * 2 + q % 2) h)
@@ -63,7 +68,7 @@ units-stand g s q k = rw (exponent-above (ours g) (ours-regular g) n) (go (ltb (
     top = low g + suc (emax g)
 
     go : (t : Bool) → ltb (reach (ours g)) (size n) ≡ t
-        → Stands g (cond t (infinite s) (finite (record { negative = s; count = n }))) (cond (ltb n (2 ^ top)) (odd (suc (prec g)) s q k (low g)) (inf s))
+        → Stands g (cond t (infinite s) (finite (value s n))) (cond (ltb n (2 ^ top)) (odd (suc (prec g)) s q k (low g)) (inf s))
     go true e = rw (le-ltb n (2 ^ top) (size-reaches n top (omega (arith, two g, ltb-true (reach (ours g)) (size n) e))))
     go false e = units-val g s q k (lt-of-lt-of-le (size-lt n) (pow-mono (omega (arith, two g, ltb-false (reach (ours g)) (size n) e))))
 
@@ -76,9 +81,6 @@ round-stands g s n =
     rw (round-is g s n L, mul-div-cancel n (pow-pos (low g)), c, closest-is n k) (units-stand g s (round n k .quotient) k)
 
 -- ---- the exact difference
-
-abbrev value : Bool → ℕ → Value
-value s n = record { negative = s; count = n }
 
 -- ±n and ±m added, as the toolchain has it
 abbrev added : Bool → ℕ → Bool → ℕ → Value
@@ -130,7 +132,13 @@ module _ (g : Ieee.Format) (c l : ℕ) (pc : 0 < c) (pl : 0 < l) where
       → sum g s a t b c ≡ Ieee.round g (added s n t m .negative) (added s n t m .count) l
   unfolding sum
   sum-is s t a n b m p q =
-      rw (less-same a n b m p q, less-same b m a n q p, plus-same s a n b m p q, minus-same t b m a n q p, minus-same (s && ltb m n) a n b m p q)
+      rw (
+        less-same a n b m p q,
+        less-same b m a n q p,
+        plus-same s a n b m p q,
+        minus-same t b m a n q p,
+        minus-same (s && ltb m n) a n b m p q,
+      )
       (go (Bool·beq s t) (ltb n m))
     where
       go : (same less : Bool) →
@@ -143,25 +151,33 @@ module _ (g : Ieee.Format) (c l : ℕ) (pc : 0 < c) (pl : 0 < l) where
 
 -- ---- by what the operands stand for
 
+-- a fraction of the denominator d over the common one, d times k
+over : (a n d k l : ℕ) → a * l ≡ n * d → a * k * l ≡ n * (d * k)
+over a n d k l e = mul-right-comm a k l ∙ ap (λ (z : ℕ). z * k) e ∙ mul-assoc n d k
+
 value-stands : (g : Ieee.Format) (x y : Value) (v w : Float) → Stands g (finite x) v → Stands g (finite y) w
     → Stands g (differenceValue (ours g) x y) (sub g v w)
 unfolding differenceValue sub
 value-stands g x y (fin s m e) (fin t n d) p q =
+    let a = m * up e in
+    let b = n * up d in
     let L = 2 ^ low g in
-    let D = exactDifference x y in
-    let r =
-    sum-is g (down e * down d) L (mul-pos (down-pos e) (down-pos d)) (pow-pos (low g)) s (not t) (m * up e * down d) (x .count) (n * up d * down e) (y .count)
-    (mul-right-comm (m * up e) (down d) L ∙ ap (λ (z : ℕ). z * down d) (p .1) ∙ mul-assoc (x .count) (down e) (down d))
-    (mul-right-comm (n * up d) (down e) L ∙ ap (λ (z : ℕ). z * down e) (q .1) ∙ mul-right-comm (y .count) (down d) (down e) ∙ mul-assoc (y .count) (down e) (down d)) in
-    rw (r, p .0, q .0, ← exact-is (x .negative) (y .negative) (x .count) (y .count)) (round-stands g (D .negative) (D .count))
+    let z = exactDifference x y in
+    let i = over a (x .count) (down e) (down d) L (p .1) in
+    let j = over b (y .count) (down d) (down e) L (q .1) ∙ ap (λ (k : ℕ). y .count * k) (mul-comm (down d) (down e)) in
+    let c = mul-pos (down-pos e) (down-pos d) in
+    let r = sum-is g (down e * down d) L c (pow-pos (low g)) s (not t) (a * down d) (x .count) (b * down e) (y .count) i j in
+    rw (r, p .0, q .0, ← exact-is (x .negative) (y .negative) (x .count) (y .count)) (round-stands g (z .negative) (z .count))
 
-infinities-stand : (g : Ieee.Format) (s t : Bool) → Stands g (cond (Bool·beq s t) nan (infinite s)) (cond (Bool·beq s (not t)) (inf s) Ieee.nan)
+infinities-stand : (g : Ieee.Format) (s t : Bool)
+    → Stands g (cond (Bool·beq s t) nan (infinite s)) (cond (Bool·beq s (not t)) (inf s) Ieee.nan)
 infinities-stand g true true = refl
 infinities-stand g true false = refl
 infinities-stand g false true = refl
 infinities-stand g false false = refl
 
-class-stands : (g : Ieee.Format) (X Y : Class) (v w : Float) → Stands g X v → Stands g Y w → Stands g (differenceClass (ours g) X Y) (sub g v w)
+class-stands : (g : Ieee.Format) (X Y : Class) (v w : Float) → Stands g X v → Stands g Y w
+    → Stands g (differenceClass (ours g) X Y) (sub g v w)
 unfolding differenceClass sub
 class-stands g unsupported Y v w p q = absurd p
 class-stands g nan Y v w p q = rw p
@@ -181,8 +197,10 @@ difference-ieee g x y =
     writes g (differenceClass (ours g) (classOf (ours g) x) (classOf (ours g) y)) (sub g (ofBits g x) (ofBits g y))
     (class-stands g (classOf (ours g) x) (classOf (ours g) y) (ofBits g x) (ofBits g y) (stands g x) (stands g y))
 
-pub difference-ieee32 : (x y : ℕ) → difference binary32 x y ≡ toBits Ieee.binary32 (sub Ieee.binary32 (ofBits Ieee.binary32 x) (ofBits Ieee.binary32 y))
+pub difference-ieee32 : (x y : ℕ)
+    → difference binary32 x y ≡ toBits Ieee.binary32 (sub Ieee.binary32 (ofBits Ieee.binary32 x) (ofBits Ieee.binary32 y))
 difference-ieee32 = difference-ieee Ieee.binary32
 
-pub difference-ieee64 : (x y : ℕ) → difference binary64 x y ≡ toBits Ieee.binary64 (sub Ieee.binary64 (ofBits Ieee.binary64 x) (ofBits Ieee.binary64 y))
+pub difference-ieee64 : (x y : ℕ)
+    → difference binary64 x y ≡ toBits Ieee.binary64 (sub Ieee.binary64 (ofBits Ieee.binary64 x) (ofBits Ieee.binary64 y))
 difference-ieee64 = difference-ieee Ieee.binary64
