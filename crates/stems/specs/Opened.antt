@@ -5,7 +5,8 @@ use mathlib.Core.List.{List}
 use lib.Dec.{leb}
 use lib.ListN.{length}
 use Rattle.definitions.specs.Stem.{Stem, opened, refused, pointLength, pointAt}
-use Rattle.gauges.specs.Held.{gaugeHeld, pointHeld}
+use Rattle.gauges.specs.Held.{gaugeHeld}
+use Rattle.points.specs.Held.{pointHeld}
 use Rattle.stems.specs.declared.StemAnswer.{StemAnswer}
 use Rattle.stems.specs.declared.StemAnswer.the-variants.{Opened, Refused}
 use Rattle.stems.specs.declared.PlacedPoint.{PlacedPoint}

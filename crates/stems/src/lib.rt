@@ -1,16 +1,20 @@
 // Stem files: judged, opened, and their points taken out one by one. The count is compared with the length and with nothing else.
+use floats::float_of;
 use gauges::BAD_GAUGE;
 use gauges::Gauge;
-use gauges::Point;
 use gauges::gauge_of;
 use gauges::good_fields;
-use floats::float_of;
 use little_endian::load2;
 use little_endian::load4;
 use little_endian::load8;
+use points::Point;
 ghost use mathlib.Core.Path.{_≡_};
 ghost use Rattle.definitions.specs.Numbers.{first};
-ghost use Rattle.definitions.specs.Stem.{judging, stem, stemPoints};
+ghost use Prim.Native.Nat.{_≤_};
+ghost use lib.Dec.{eqb};
+ghost use lib.ListN.{length};
+ghost use Rattle.definitions.specs.Bytes.{ofBytes};
+ghost use Rattle.definitions.specs.Stem.{headerLength, mark, fileMark, judging, stem, stemPoints};
 ghost use Rattle.stems.specs.Opened.{answerOf, placedOf};
 
 pub const HEADER_LENGTH: usize = 26;

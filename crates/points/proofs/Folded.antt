@@ -1,0 +1,138 @@
+-- The fold of a reading, from the remainder that the library told; what it gives passes a float. Assumes nothing.
+use mathlib.Core.Path.{_≡_, refl, sym, ap, _∙_}
+use mathlib.Core.Bool.{Bool, true, false, not, _&&_, _||_}
+use Prim.Native.Nat.{ℕ, _^_, _<_, _≤_}
+use native.Mathlib.Omega.{arith}
+use lib.Dec.{eqb}
+use lib.Ieee as Ieee
+use lib.Ieee.{Float, toBits}
+use Rattle.digits.proofs.Tests.{clash}
+use Rattle.definitions.specs.Class.{Class, unsupported, nan, infinite, finite}
+use Rattle.definitions.specs.Format.{binary64, classOf, houseNan}
+use Rattle.definitions.specs.Numbers.{first, dividing, isUnsupported, isNan, isInfinite, isZero}
+use Rattle.definitions.specs.Remainder.{Remainder, remainder}
+use Rattle.definitions.specs.Fold.{bad}
+use Rattle.definitions.specs.Answers.{refusalNumber, remainderMeaning, joined}
+use Rattle.definitions.specs.Difference.{difference}
+use Rattle.definitions.specs.Stem.{Gauge, turn, roller, periodOf, isPositive, good, Point, shifted, foldReading, foldPoint}
+use Rattle.definitions.specs.declared.Kind.the-variants.{Truncated}
+use Rattle.definitions.specs.declared.Pattern.{Pattern}
+use Rattle.definitions.specs.declared.Refusal.{Refusal}
+use Rattle.definitions.specs.declared.RemainderAnswer.{RemainderAnswer}
+use Rattle.definitions.specs.declared.RemainderAnswer.the-variants.{Finished, Refused}
+use Rattle.laws.proofs.Agrees.{agrees, agrees-bits}
+use Rattle.laws.proofs.Regular.{regular64}
+use Rattle.laws.proofs.Small.{remainder-small}
+use Rattle.definitions.proofs.Refusals.{supported}
+use Rattle.checks.proofs.Judged.{refusal-some}
+use Rattle.gauges.specs.Held.{gaugeBits}
+use Rattle.gauges.specs.declared.Gauge as code
+use Rattle.gauges.specs.declared.Gauge.the-variants.{Turn, Roller}
+use Rattle.floats.proofs.Passed.{passed, house-passed}
+
+-- what is divided, by each case of a gauge as the code finds it
+pub shifted-turn : (g : code.Gauge) (p : Float) (x : ℕ) → g ≡ Turn p → shifted (gaugeBits g) x ≡ x
+unfolding shifted
+shifted-turn g p x e = rw e
+
+pub shifted-roller : (g : code.Gauge) (p o : Float) (x : ℕ) → g ≡ Roller p o → shifted (gaugeBits g) x ≡ difference binary64 x (toBits Ieee.binary64 o)
+unfolding shifted
+shifted-roller g p o x e = rw e
+
+not-true : (b : Bool) → not b ≡ true → b ≡ false
+not-true true e = sym e
+not-true false e = refl
+
+pub not-false : (b : Bool) → not b ≡ false → b ≡ true
+not-false true e = refl
+not-false false e = sym e
+
+-- the period of a good gauge is above zero
+positive-period : (g : Gauge) → good g ≡ true → isPositive (classOf binary64 (periodOf g)) ≡ true
+unfolding good
+positive-period (turn p) e = e
+positive-period (roller p o) e = go (isPositive (classOf binary64 p)) (not (bad o)) e
+  where
+    go : (a b : Bool) → a && b ≡ true → a ≡ true
+    go true b e = refl
+    go false b e = e
+
+-- the number of a pair, by what the two stand for
+number-of : (x y : ℕ) → remainder binary64 Truncated x y .number ≡ first (dividing (classOf binary64 x) (classOf binary64 y))
+unfolding remainder
+number-of x y = refl
+
+-- what a class above zero is not
+positive-tests : (b : Class) → isPositive b ≡ true → (isUnsupported b ≡ false) × (isNan b ≡ false) × (isZero b ≡ false)
+positive-tests unsupported p = clash (cc)
+positive-tests nan p = clash (cc)
+positive-tests (infinite n) p = clash (cc)
+positive-tests (finite v) p = (refl, refl, go (not (v .negative)) (eqb (v .count) 0) p)
+  where
+    go : (a b : Bool) → a && not b ≡ true → b ≡ false
+    go true true e = sym e
+    go true false e = refl
+    go false b e = clash (cc)
+
+-- nothing but a bad dividend is refused by a period above zero
+only-bad : (a b : Class) → isPositive b ≡ true → isUnsupported a ≡ false → eqb (first (dividing a b)) 0 ≡ not (isNan a || isInfinite a)
+unfolding first
+only-bad unsupported b p s = clash (cc)
+only-bad nan b p s = rw (positive-tests b p .0)
+only-bad (infinite n) b p s = rw (positive-tests b p .0, positive-tests b p .1)
+only-bad (finite v) b p s = rw (positive-tests b p .0, positive-tests b p .1, positive-tests b p .2)
+
+module _ (g : Gauge) (x : ℕ) where
+  -- what is divided, and its remainder
+  abbrev divided : ℕ
+  divided = shifted g x
+
+  abbrev left : Remainder
+  left = remainder binary64 Truncated divided (periodOf g)
+
+  fold-bad : bad divided ≡ true → foldReading g x ≡ houseNan binary64
+  unfolding foldReading
+  fold-bad e = rw e
+
+  fold-finite : bad divided ≡ false → foldReading g x ≡ left .value
+  unfolding foldReading
+  fold-finite e = rw e
+
+  -- what it gives passes a float
+  pub fold-passed : passed (foldReading g x) ≡ foldReading g x
+  fold-passed = go (bad divided) refl
+    where
+      go : (t : Bool) → bad divided ≡ t → passed (foldReading g x) ≡ foldReading g x
+      go true e = rw (fold-bad e) house-passed
+      go false e = rw (fold-finite e) (ap (toBits Ieee.binary64) (agrees Ieee.binary64 divided (periodOf g)) ∙ sym (agrees-bits Ieee.binary64 divided (periodOf g)))
+
+  module _ (h : good g ≡ true) (a : RemainderAnswer) (told : remainderMeaning binary64 a ≡ left) where
+    number-tells : eqb (left .number) 0 ≡ not (bad divided)
+    number-tells =
+        ap (λ (n : ℕ). eqb n 0) (number-of divided (periodOf g))
+        ∙ only-bad (classOf binary64 divided) (classOf binary64 (periodOf g)) (positive-period g h) (supported binary64 refl divided)
+
+    pub finished : (v : Pattern) (q : ℕ) → a ≡ Finished v q → v .low ≡ foldReading g x
+    unfolding remainderMeaning
+    finished v q e =
+        let is : left ≡ record { number = 0; value = joined v; quotient = q } = sym told ∙ ap (remainderMeaning binary64) e in
+        let small = remainder-small binary64 regular64 Truncated divided (periodOf g) in
+        let fits : joined v < 2 ^ 64 = rw is at small in
+        let z : not (bad divided) ≡ true = sym number-tells ∙ ap (λ (r : Remainder). eqb (r .number) 0) is in
+        rw (fold-finite (not-true (bad divided) z), is) (omega arith)
+
+    pub refused : (w : Refusal) → a ≡ Refused w → houseNan binary64 ≡ foldReading g x
+    unfolding remainderMeaning
+    refused w e =
+        let is : left .number ≡ refusalNumber w = ap (λ (r : Remainder). r .number) (sym told ∙ ap (remainderMeaning binary64) e) in
+        let z : not (bad divided) ≡ false = sym number-tells ∙ ap (λ (n : ℕ). eqb n 0) is ∙ refusal-some w in
+        sym (fold-bad (not-false (bad divided) z))
+
+pub point-kept : (g : Gauge) (p : Point) → not (good g) ≡ true → foldPoint g p ≡ record { number = 15; point = p }
+unfolding foldPoint first
+point-kept g p e = rw e
+
+pub point-folded : (g : Gauge) (p : Point) → not (good g) ≡ false
+    → foldPoint g p ≡ record { number = 0; point = record { reading = foldReading g (p .reading); radius = p .radius } }
+unfolding foldPoint first
+point-folded g p e = rw e
