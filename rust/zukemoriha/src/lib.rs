@@ -2,7 +2,8 @@
 //!
 //! The truncated remainder (C's `fmod`) and the nearest one (IEEE 754's `remainder`), with the
 //! three low bits of the quotient; the processor's partial step (FPREM, FPREM1) and runs of it;
-//! scaling by a power of two; splitting into significand and exponent; folding of lists.
+//! scaling by a power of two; splitting into significand and exponent; folding of lists; stem
+//! files of a log scanner, and the folding of their points.
 //!
 //! ```
 //! use zukemoriha::{remainder_f64, Kind};
@@ -17,7 +18,7 @@
 //! - **Every bit pattern is taken.** Nothing has to be looked at before a call: bad input is
 //!   refused by a [`Refusal`], and a refused call writes nothing.
 //! - **Exact.** A remainder is right to the last bit and the sign of zero, however far apart the
-//!   operands are. Only scaling rounds: once, ties to even.
+//!   operands are. Only scaling and a roller's subtraction round: once, ties to even.
 //! - **Proved.** The archive that does the work is written in Rattle, a systems language like
 //!   Rust in which a function is compiled only once it is proved to meet its contract. Each
 //!   function is proved, for every bit pattern, to give what its definition says. This
@@ -34,6 +35,7 @@
 //! | `f64` | [`remainder_f64`], [`scale_f64`], [`split_f64`], [`fold_f64`] |
 //! | patterns of IEEE 754's interchange formats | [`binary16`], [`binary32`], [`binary64`] |
 //! | patterns of the 80-bit x87 format | [`x87`], on operands of type [`X87`] |
+//! | bytes of a stem file | [`Stem::open`], [`Gauge::fold`], in [`stem`] |
 //!
 //! # The remainder
 //!
@@ -44,7 +46,7 @@
 //!
 //! # The numbers
 //!
-//! Every call ends in one of ten numbers. 0, 1 and 7 are answers, the rest refusals:
+//! Every call ends in one of sixteen numbers. 0, 1 and 7 are answers, the rest refusals:
 //!
 //! | Number | Here | Given when |
 //! |---|---|---|
@@ -58,8 +60,15 @@
 //! | 7 | [`Answer::Spent`] | a run's budget is spent |
 //! | 8 | [`Refusal::ZeroSplit`] | a zero is split |
 //! | 9 | [`Refusal::BadLength`] | lists of unequal length, or a block that is not 16 bytes |
+//! | 10 | [`Refusal::StemMark`] | a stem file does not begin with STM |
+//! | 11 | [`Refusal::StemVersion`] | the version is not 1 |
+//! | 12 | [`Refusal::StemKind`] | the kind is neither 0 nor 1 |
+//! | 13 | [`Refusal::StemCount`] | the count is above 4000 |
+//! | 14 | [`Refusal::StemLength`] | the length is below a header's, or not what the count asks for |
+//! | 15 | [`Refusal::StemGauge`] | the period or the origin is not as it has to be |
 //!
-//! Where several refusals apply, the first of 9, 6, 2, 3, 4, 5, 8 is given.
+//! Where several refusals apply, the first of 9, 6, 2, 3, 4, 5, 8 is given; stem files have
+//! [their own order](Stem::open).
 //!
 //! No operand makes a function panic. One thing does: an archive of another version than this
 //! crate, if it returns a number that this version never returns.
@@ -96,6 +105,7 @@ mod raw;
 pub mod binary16;
 pub mod binary32;
 pub mod binary64;
+pub mod stem;
 pub mod x87;
 
 pub use answers::{Block, Remainder, Scaled, Split};
@@ -104,6 +114,7 @@ pub use floats::{
 };
 pub use numbers::{Answer, Kind, Refusal, Rounding};
 pub use operand::X87;
+pub use stem::{Gauge, Point, Stem};
 
 // The program of the README is compiled and run with the other examples.
 #[cfg(doctest)]

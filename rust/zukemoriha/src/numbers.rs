@@ -58,7 +58,8 @@ impl Answer {
 
 /// Why a call was refused. A refused call has written nothing to what it was lent.
 ///
-/// Where several refusals apply, a call gives the first of 9, 6, 2, 3, 4, 5, 8 by [`number`].
+/// Where several refusals apply, a call gives the first of 9, 6, 2, 3, 4, 5, 8 by [`number`]. Stem
+/// files have an order of their own: see [`Stem::open`](crate::Stem::open).
 ///
 /// ```
 /// use zukemoriha::{remainder_f64, Kind, Refusal};
@@ -87,6 +88,18 @@ pub enum Refusal {
     ZeroSplit = 8,
     /// Lists of unequal length, or a block that is not 16 bytes long.
     BadLength = 9,
+    /// A stem file does not begin with the letters STM.
+    StemMark = 10,
+    /// The version of a stem file is not 1.
+    StemVersion = 11,
+    /// The kind of a stem file's gauge is neither 0, a turn, nor 1, a roller.
+    StemKind = 12,
+    /// The count of a stem file's points is above 4000.
+    StemCount = 13,
+    /// A stem file is shorter than its header, or its length is not what its count asks for.
+    StemLength = 14,
+    /// The period or the origin of a [`Gauge`](crate::Gauge) is not as it has to be.
+    StemGauge = 15,
 }
 
 impl Refusal {
@@ -104,6 +117,12 @@ impl Refusal {
             6 => Some(Refusal::BadSize),
             8 => Some(Refusal::ZeroSplit),
             9 => Some(Refusal::BadLength),
+            10 => Some(Refusal::StemMark),
+            11 => Some(Refusal::StemVersion),
+            12 => Some(Refusal::StemKind),
+            13 => Some(Refusal::StemCount),
+            14 => Some(Refusal::StemLength),
+            15 => Some(Refusal::StemGauge),
             _ => None,
         }
     }
@@ -119,6 +138,12 @@ impl fmt::Display for Refusal {
             Refusal::BadSize => "the step size is not from 32 to 63",
             Refusal::ZeroSplit => "a zero was to be split",
             Refusal::BadLength => "the lists are of unequal length, or the block is not 16 bytes",
+            Refusal::StemMark => "the stem file does not begin with STM",
+            Refusal::StemVersion => "the version of the stem file is not 1",
+            Refusal::StemKind => "the gauge is neither a turn nor a roller",
+            Refusal::StemCount => "the stem file has more than 4000 points",
+            Refusal::StemLength => "the stem file is not as long as its header says",
+            Refusal::StemGauge => "the period or the origin of the gauge is out of range",
         })
     }
 }
@@ -187,7 +212,7 @@ mod tests {
 
     #[test]
     fn each_number_is_an_answer_or_a_refusal() {
-        for number in 0..=9 {
+        for number in 0..=15 {
             let told_again = match told(number) {
                 Ok(answer) => answer.number(),
                 Err(refusal) => refusal.number(),
@@ -198,8 +223,8 @@ mod tests {
 
     #[test]
     #[should_panic(expected = "different versions")]
-    fn a_number_above_9_is_of_another_version() {
-        let _ = told(10);
+    fn a_number_above_15_is_of_another_version() {
+        let _ = told(16);
     }
 
     #[test]

@@ -74,4 +74,15 @@ extern "C" {
         kind: u32,
         marked: *mut usize,
     ) -> u8;
+
+    pub fn zk_stem_open(
+        file: *const u8,
+        length: usize,
+        kind: *mut u32,
+        period: *mut u64,
+        origin: *mut u64,
+        start: *mut usize,
+        count: *mut usize,
+    ) -> u8;
+    pub fn zk_stem_fold(kind: u32, period: u64, origin: u64, reading: *mut u64) -> u8;
 }
