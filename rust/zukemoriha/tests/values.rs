@@ -75,8 +75,17 @@ fn enums_have_the_numbers_of_the_archive() {
         Refusal::BadSize,
         Refusal::ZeroSplit,
         Refusal::BadLength,
+        Refusal::StemMark,
+        Refusal::StemVersion,
+        Refusal::StemKind,
+        Refusal::StemCount,
+        Refusal::StemLength,
+        Refusal::StemGauge,
     ];
-    assert_eq!(refusals.map(Refusal::number), [2, 3, 4, 5, 6, 8, 9]);
+    assert_eq!(
+        refusals.map(Refusal::number),
+        [2, 3, 4, 5, 6, 8, 9, 10, 11, 12, 13, 14, 15]
+    );
 }
 
 #[test]
