@@ -17,7 +17,7 @@ pub enum Format {
 /// The constants of a format.
 pub(crate) struct Layout {
     /// Digits of a significand, the leading one counted.
-    precision: u32,
+    pub(crate) precision: u32,
     /// Digits of a significand that the pattern stores.
     stored: u32,
     exponent_bits: u32,

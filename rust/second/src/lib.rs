@@ -1,13 +1,15 @@
-//! Exact remainders, partial steps, scaling and splitting on bit patterns, by the plainest method
-//! there is: the raw fields of a pattern, and long division one bit at a time. It exists to be
-//! compared with, so it is meant to be obvious rather than quick.
+//! Exact remainders, partial steps, scaling and splitting on bit patterns, and stem files, by the
+//! plainest method there is: the raw fields of a pattern, and long division one bit at a time. It
+//! exists to be compared with, so it is meant to be obvious rather than quick.
 #![forbid(unsafe_code)]
 #![warn(missing_docs)]
 
 mod checks;
+mod difference;
 mod division;
 mod format;
 mod scaling;
+pub mod stem;
 
 use checks::{first_refusal, Task, FINISHED, PARTIAL, SPENT};
 use division::QUOTIENT_MODULUS;
