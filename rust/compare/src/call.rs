@@ -1,6 +1,7 @@
 //! A call and its answer, in one form for the library, the second implementation and a file.
 
 use crate::formats::Layout;
+use second::stem::{self, Gauge, Point, Stem};
 use second::{Answer, Folded, Format, Kind};
 
 /// A call of one operation, with its operands in this order. A step or a run is lent a block of
@@ -26,6 +27,12 @@ pub trait Implementation: Sync {
     /// # Errors
     /// The number that refuses the list.
     fn fold(&self, kind: Kind, dividends: &[u64], divisor: u64) -> Result<Folded, u8>;
+    /// # Errors
+    /// The number that refuses the stem file.
+    fn open(&self, file: &[u8]) -> Result<Stem, u8>;
+    /// # Errors
+    /// The number that refuses the gauge.
+    fn fold_point(&self, gauge: Gauge, point: Point) -> Result<Point, u8>;
 }
 
 /// The two that are compared, the library first.
@@ -95,5 +102,13 @@ impl Implementation for Second {
 
     fn fold(&self, kind: Kind, dividends: &[u64], divisor: u64) -> Result<Folded, u8> {
         second::fold(kind, dividends, divisor)
+    }
+
+    fn open(&self, file: &[u8]) -> Result<Stem, u8> {
+        stem::open(file)
+    }
+
+    fn fold_point(&self, gauge: Gauge, point: Point) -> Result<Point, u8> {
+        stem::fold(gauge, point)
     }
 }

@@ -17,12 +17,14 @@ pub mod lists;
 mod operands;
 pub mod published;
 pub mod sequence;
+pub mod stems;
 pub mod vectors;
 
 pub use call::{Call, Implementation, Pair, Second, MISWROTE};
 pub use comparison::Comparison;
 pub use fields::read;
 pub use library::{lent, lent_lists, Library};
+pub use second::stem::{Gauge, Point, Stem};
 pub use second::{Answer, Folded, Format, Kind};
 
 /// What is compared.

@@ -2,6 +2,7 @@
 //! than it may, or anything with a refusal, is seen.
 
 use crate::call::{divided, refused, remained, scaled, split, Call, Implementation, MISWROTE};
+use second::stem::{Gauge, Point, Stem, ROLLER, TURN};
 use second::{Answer, Folded, Format, Kind};
 use std::ops::Range;
 use zukemoriha::{binary16, binary32, binary64, x87, Block, Refusal, X87};
@@ -65,6 +66,38 @@ impl Implementation for Library {
             binary64::fold(dividends, results, quotients, divisor, kind_of(kind))
         })
     }
+
+    fn open(&self, file: &[u8]) -> Result<Stem, u8> {
+        let stem = zukemoriha::Stem::open(file).map_err(Refusal::number)?;
+        let (kind, period, origin) = match stem.gauge() {
+            zukemoriha::Gauge::Turn { period } => (TURN, period, 0),
+            zukemoriha::Gauge::Roller { period, origin } => (ROLLER, period, origin),
+        };
+        let gauge = Gauge {
+            kind,
+            period,
+            origin,
+        };
+        let points = stem.points().map(point_of).collect();
+        Ok(Stem { gauge, points })
+    }
+
+    fn fold_point(&self, gauge: Gauge, point: Point) -> Result<Point, u8> {
+        let (period, origin) = (gauge.period, gauge.origin);
+        let gauge = match (gauge.kind, origin) {
+            (TURN, 0) => zukemoriha::Gauge::Turn { period },
+            (ROLLER, _) => zukemoriha::Gauge::Roller { period, origin },
+            _ => panic!("not a gauge of the safe functions: {gauge:X?}"),
+        };
+        let Point { reading, radius } = point;
+        let folded = gauge.fold(zukemoriha::Point { reading, radius });
+        folded.map(point_of).map_err(Refusal::number)
+    }
+}
+
+fn point_of(point: zukemoriha::Point) -> Point {
+    let zukemoriha::Point { reading, radius } = point;
+    Point { reading, radius }
 }
 
 /// What a call that is lent a block tells. It gets the whole room, and where the block lies in it.

@@ -1,5 +1,6 @@
 //! Operands of the generated sequence: every class of pattern by every class, every band of the gap
-//! D (the exponent of the dividend less that of the divisor), and ties.
+//! D (the exponent of the dividend less that of the divisor), and ties. Readings, origins and periods
+//! of points.
 
 use crate::formats::Layout;
 
@@ -81,6 +82,69 @@ impl Draw {
             layout.placed(self.below(2), place + 63 - u64::from(zeros), n << zeros)
         };
         (counted(k * m, low), counted(m, low + 1))
+    }
+
+    /// A reading and the origin that is subtracted from it, or the other way round.
+    pub fn shifted(&mut self, layout: &Layout) -> (u128, u128) {
+        let (sign, other_sign, near) = (self.below(2), self.below(2), self.below(57));
+        let (x, y) = match self.below(8) {
+            0 => (self.any(layout), self.any(layout)),
+            1 => self.pair(layout),
+            2 => self.halved(layout),
+            // all digits but the last cancel, or the last too
+            3 => {
+                let x = self.any(layout);
+                (x, x ^ u128::from(self.below(4)))
+            }
+            // the range's end
+            4 => {
+                let (x, y) = (self.digits(), self.digits());
+                let place = layout.top() - near;
+                (
+                    layout.placed(sign, layout.top(), x),
+                    layout.placed(other_sign, place, y),
+                )
+            }
+            // denormals, and the smallest of the others
+            5 => {
+                let (x, y) = (self.digits(), self.digits());
+                let place = self.below(57);
+                (
+                    layout.placed(sign, near, x),
+                    layout.placed(other_sign, place, y),
+                )
+            }
+            _ => self.apart(layout, near),
+        };
+        if self.below(2) == 0 {
+            (x, y)
+        } else {
+            (y, x)
+        }
+    }
+
+    /// y is an odd number of halves of the last digit of x: mostly their difference is a tie.
+    fn halved(&mut self, layout: &Layout) -> (u128, u128) {
+        let digits = self.digits();
+        let n = self.bits() >> (12 + self.below(52)) | 1;
+        let zeros = n.leading_zeros();
+        let half = self.below(layout.top() - layout.precision + 1);
+        let y = layout.placed(self.below(2), half + 63 - u64::from(zeros), n << zeros);
+        let x = layout.placed(self.below(2), half + layout.precision, digits);
+        (x, y)
+    }
+
+    /// A period, one in 16 of any pattern. Half of them are so large that they leave a reading as it
+    /// is, and show what the subtraction has made of it.
+    pub fn period(&mut self, layout: &Layout, reading: u128) -> u128 {
+        let (_, place) = layout.sorted(reading);
+        let digits = self.digits();
+        match self.below(16) {
+            0 => self.any(layout),
+            1..=7 => layout.placed(0, layout.top(), digits),
+            8..=12 => layout.placed(0, place.saturating_sub(self.below(64)), digits),
+            _ => layout.placed(0, self.below(layout.top() + 1), digits),
+        }
     }
 
     /// Any digits, or few ones, or few zeros.

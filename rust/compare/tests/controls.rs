@@ -4,7 +4,9 @@
 mod altered;
 
 use altered::{altered_text, shortened, Altered, Change, CHANGES};
+use compare::stems::Difference;
 use compare::*;
+use zukemoriha::binary64::HOUSE_NAN;
 use zukemoriha::Answer::{Finished, Partial};
 use zukemoriha::Refusal::{BadSize, ZeroDivisor};
 
@@ -26,6 +28,59 @@ impl Implementation for Misnumbered {
 
     fn fold(&self, kind: Kind, dividends: &[u64], divisor: u64) -> Result<Folded, u8> {
         Library.fold(kind, dividends, divisor)
+    }
+
+    fn open(&self, file: &[u8]) -> Result<Stem, u8> {
+        Library.open(file)
+    }
+
+    fn fold_point(&self, gauge: Gauge, point: Point) -> Result<Point, u8> {
+        Library.fold_point(gauge, point)
+    }
+}
+
+/// The library, with a stem file that is mended before it is judged, and a roller's readings from
+/// which the origin is taken in another way.
+struct Otherwise {
+    mend: Change<Vec<u8>>,
+    subtract: Subtraction,
+}
+
+type Subtraction = fn(f64, f64) -> f64;
+
+impl Implementation for Otherwise {
+    fn name(&self) -> &'static str {
+        "otherwise"
+    }
+
+    fn answer(&self, call: &Call) -> Answer {
+        Library.answer(call)
+    }
+
+    fn fold(&self, kind: Kind, dividends: &[u64], divisor: u64) -> Result<Folded, u8> {
+        Library.fold(kind, dividends, divisor)
+    }
+
+    fn open(&self, file: &[u8]) -> Result<Stem, u8> {
+        let mut file = file.to_vec();
+        if file.len() >= 26 {
+            (self.mend)(&mut file);
+        }
+        Library.open(&file)
+    }
+
+    fn fold_point(&self, gauge: Gauge, point: Point) -> Result<Point, u8> {
+        let mut folded = Library.fold_point(gauge, point)?;
+        let numbers = [point.reading, gauge.origin, gauge.period];
+        let [reading, origin, period] = numbers.map(f64::from_bits);
+        if gauge.kind == 1 && reading.is_finite() {
+            let left = (self.subtract)(reading, origin);
+            folded.reading = match left.is_finite() {
+                true => (left % period).to_bits(),
+                false => HOUSE_NAN,
+            };
+        }
+        Ok(folded)
     }
 }
 
@@ -101,6 +156,119 @@ fn one_wrong_list_is_noticed() {
 }
 
 #[test]
+fn one_wrong_stem_file_is_noticed() {
+    fn in_file(stem: &mut Result<Stem, u8>, change: Change<Stem>) {
+        change(stem.as_mut().unwrap())
+    }
+    let changes: [(&str, Change<Result<Stem, u8>>); 8] = [
+        ("number", |stem| *stem = Err(14)),
+        ("kind", |stem| in_file(stem, |stem| stem.gauge.kind ^= 1)),
+        ("period", |stem| {
+            in_file(stem, |stem| stem.gauge.period ^= 1)
+        }),
+        ("origin", |stem| {
+            in_file(stem, |stem| stem.gauge.origin ^= 1)
+        }),
+        ("reading", |stem| {
+            in_file(stem, |stem| stem.points[0].reading ^= 1)
+        }),
+        ("radius", |stem| {
+            in_file(stem, |stem| stem.points[0].radius ^= 1)
+        }),
+        ("order", |stem| in_file(stem, |stem| stem.points.reverse())),
+        ("count", |stem| {
+            in_file(stem, |stem| stem.points.truncate(1))
+        }),
+    ];
+    for (what, change) in changes {
+        let altered = Altered::stem(change);
+        let different = stems::files([&altered, &Second], 0).0.different;
+        assert_eq!(different, 1, "{what}");
+    }
+}
+
+#[test]
+fn one_wrong_point_is_noticed() {
+    let changes: [(&str, Change<Result<Point, u8>>); 3] = [
+        ("number", |point| *point = Err(15)),
+        ("reading", |point| point.as_mut().unwrap().reading ^= 1),
+        ("radius", |point| point.as_mut().unwrap().radius ^= 1 << 51),
+    ];
+    for (what, change) in changes {
+        let altered = Altered::point(change);
+        let different = stems::folds([&altered, &Second], 100).0.different;
+        assert_eq!(different, 1, "{what}");
+    }
+}
+
+/// A library that overlooks a part of a file.
+#[test]
+fn a_lax_judge_of_stem_files_is_noticed() {
+    let mendings: [(&str, Change<Vec<u8>>); 13] = [
+        ("mark", |file| file[..3].copy_from_slice(b"STM")),
+        ("last letter", |file| file[2] = b'M'),
+        ("version", |file| file[3] = 1),
+        ("version's upper byte", |file| file[4] = 0),
+        ("kind's upper bits", |file| file[5] &= 1),
+        ("count's upper bytes", |file| file[8..10].fill(0)),
+        ("period's sign", |file| file[17] &= 0x7F),
+        ("smallest period", |file| file[10] |= 1),
+        ("largest period", |file| file[16] &= 0xEF),
+        ("origin", |file| file[18..26].fill(0)),
+        ("origin's sign", |file| file[25] &= 0x7F),
+        ("missing points", |file| {
+            file.resize(file.len().max(26 + 16 * usize::from(file[6])), 0)
+        }),
+        ("a byte too many", |file| {
+            file.truncate((file.len() - 26) / 16 * 16 + 26)
+        }),
+    ];
+    let judged = |mend| {
+        let subtract = |x, origin| x - origin;
+        let lax = Otherwise { mend, subtract };
+        stems::files([&lax, &Second], 0).0.different
+    };
+    assert_eq!(judged(|_| ()), 0);
+    for (what, mend) in mendings {
+        assert!(judged(mend) > 0, "{what}");
+    }
+}
+
+/// The processor's own subtraction is not different.
+#[test]
+fn another_subtraction_is_noticed() {
+    let subtractions: [(&str, Subtraction); 7] = [
+        ("ties to odd", |x, origin| {
+            let difference = Difference::of(x, origin);
+            difference.other().unwrap_or(difference.left)
+        }),
+        ("cut", |x, origin| match Difference::of(x, origin) {
+            Difference { left, lost } if left * lost < 0.0 => f64::from_bits(left.to_bits() - 1),
+            Difference { left, .. } => left,
+        }),
+        ("rounded twice", |x, origin| x - origin / 2.0 - origin / 2.0),
+        ("signs of zeros", |x, origin| -(origin - x)),
+        ("no denormals", |x, origin| match x - origin {
+            left if left.is_subnormal() => 0.0_f64.copysign(left),
+            left => left,
+        }),
+        ("no infinity", |x, origin| {
+            (x - origin).clamp(f64::MIN, f64::MAX)
+        }),
+        ("added", |x, origin| x + origin),
+    ];
+    let folded = |subtract| {
+        let mend = |_: &mut Vec<u8>| ();
+        let otherwise = Otherwise { mend, subtract };
+        stems::folds([&otherwise, &Second], 20_000).0.different
+    };
+    assert_eq!(folded(|x, origin| x - origin), 0);
+    for (what, subtract) in subtractions {
+        assert!(folded(subtract) > 0, "{what}");
+    }
+}
+
+#[test]
 fn one_wrong_field_of_a_file_is_noticed() {
     for (path, line, fields) in [
         ("computed/rem-x87.txt", 0, 2..7),
@@ -147,6 +315,12 @@ fn a_missing_case_is_noticed() {
     assert_ne!(less, all, "generated lists");
     let [less, all] = [99, 100].map(|places| folds::long(PAIR, places));
     assert_ne!((less.0, less.2), (all.0, all.2), "long lists");
+    let [less, all] = [99, 100].map(|files| stems::files(PAIR, files));
+    assert_ne!(less.0.answers, all.0.answers, "stem files");
+    assert_ne!(less.1, all.1, "numbers of stem files");
+    let [less, all] = [99, 100].map(|points| stems::folds(PAIR, points));
+    assert_ne!(less.0.answers, all.0.answers, "points");
+    assert_ne!(less.1, all.1, "cells of the points");
     let [less, all] = [1, 2].map(|n| half::compare(PAIR, &[1, 2][..n], &|_| ()).answers);
     assert_ne!(less, all, "half");
 }

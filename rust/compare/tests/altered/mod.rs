@@ -3,7 +3,7 @@
 // each test needs a part
 #![allow(dead_code)]
 
-use compare::{Answer, Call, Folded, Implementation, Kind, Library};
+use compare::{Answer, Call, Folded, Gauge, Implementation, Kind, Library, Point, Stem};
 use std::sync::atomic::{AtomicI64, Ordering};
 
 pub type Change<T> = fn(&mut T);
@@ -18,31 +18,56 @@ pub const CHANGES: [(&str, Change<Answer>); 6] = [
     ("the exponent", |answer| answer.exponent -= 1),
 ];
 
-/// The library, with one of its finished answers, or one of its lists with a mark, changed.
+/// The library, with one of its finished answers, its lists with a mark, its stem files with a point
+/// or its folded points changed.
 pub struct Altered {
     /// How many of them come before that one.
     left: AtomicI64,
     answer: Change<Answer>,
     list: Change<Result<Folded, u8>>,
+    stem: Change<Result<Stem, u8>>,
+    point: Change<Result<Point, u8>>,
 }
 
 impl Altered {
-    pub fn answer(change: Change<Answer>) -> Altered {
-        let left = AtomicI64::new(5);
+    /// Nothing is changed.
+    fn after(left: i64) -> Altered {
+        let left = AtomicI64::new(left);
         Altered {
             left,
-            answer: change,
+            answer: |_| (),
             list: |_| (),
+            stem: |_| (),
+            point: |_| (),
+        }
+    }
+
+    pub fn answer(change: Change<Answer>) -> Altered {
+        Altered {
+            answer: change,
+            ..Altered::after(5)
         }
     }
 
     /// The list that comes after so many.
     pub fn list(change: Change<Result<Folded, u8>>, left: i64) -> Altered {
-        let left = AtomicI64::new(left);
         Altered {
-            left,
-            answer: |_| (),
             list: change,
+            ..Altered::after(left)
+        }
+    }
+
+    pub fn stem(change: Change<Result<Stem, u8>>) -> Altered {
+        Altered {
+            stem: change,
+            ..Altered::after(5)
+        }
+    }
+
+    pub fn point(change: Change<Result<Point, u8>>) -> Altered {
+        Altered {
+            point: change,
+            ..Altered::after(5)
         }
     }
 
@@ -70,6 +95,22 @@ impl Implementation for Altered {
             (self.list)(&mut list);
         }
         list
+    }
+
+    fn open(&self, file: &[u8]) -> Result<Stem, u8> {
+        let mut stem = Library.open(file);
+        if matches!(&stem, Ok(stem) if !stem.points.is_empty()) && self.is_the_one() {
+            (self.stem)(&mut stem);
+        }
+        stem
+    }
+
+    fn fold_point(&self, gauge: Gauge, point: Point) -> Result<Point, u8> {
+        let mut folded = Library.fold_point(gauge, point);
+        if folded.is_ok() && self.is_the_one() {
+            (self.point)(&mut folded);
+        }
+        folded
     }
 }
 
