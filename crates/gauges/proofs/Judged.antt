@@ -22,7 +22,7 @@ use Rattle.gauges.specs.declared.Gauge.{Gauge}
 use Rattle.gauges.specs.declared.Gauge.the-variants.{Turn, Roller}
 use Rattle.gauges.specs.Held.{gaugeHeld, gaugeBits}
 
-abbrev pub positiveOperand : Operand → Bool
+abbrev positiveOperand : Operand → Bool
 positiveOperand Unsupported = false
 positiveOperand Nan = false
 positiveOperand (Infinite n) = false
@@ -57,8 +57,8 @@ positive-told (finite v) =
     (λ h. rw (not-zero (v .count) h, and-true (not (v .negative))))
 
 module _ (b : ℕ) (o : Operand) (e : o ≡ operandOf (binary64 .smallest) (classOf binary64 b)) where
-  pub positive-is : positiveOperand o ≡ isPositive (classOf binary64 b)
-  positive-is = rw (e, positive-told (classOf binary64 b))
+  pub positive-is : (x : Operand) → o ≡ x → positiveOperand x ≡ isPositive (classOf binary64 b)
+  positive-is x is = rw (← is, e, positive-told (classOf binary64 b))
 
   pub bad-is : nanOperand o || infiniteOperand o ≡ bad b
   bad-is = rw (e, nan-told (binary64 .smallest) (classOf binary64 b), infinite-told (binary64 .smallest) (classOf binary64 b))

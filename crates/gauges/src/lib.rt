@@ -41,10 +41,12 @@ fn is_positive(pattern: u64) -> bool
     ensures { λ r. ⌜ r ≡ isPositive (classOf binary64 pattern) ⌝ }
 {
     let operand = Binary64::of_pattern(pattern).operand;
-    if let Operand::Finite(value) = operand {
-        !value.negative
-    } else {
-        false
+    match operand {
+        Operand::Unsupported => false,
+        Operand::Nan => false,
+        Operand::Infinite(_) => false,
+        Operand::Zero(_) => false,
+        Operand::Finite(value) => !value.negative,
     }
 }
 

@@ -1,6 +1,6 @@
 -- The fold of a reading, from the remainder that the library told; what it gives passes a float. Assumes nothing.
 use mathlib.Core.Path.{_≡_, refl, sym, ap, _∙_}
-use mathlib.Core.Bool.{Bool, true, false, not, _&&_, _||_}
+use mathlib.Core.Bool.{Bool, true, false, not, cond, _&&_, _||_}
 use Prim.Native.Nat.{ℕ, _^_, _<_, _≤_}
 use native.Mathlib.Omega.{arith}
 use lib.Dec.{eqb}
@@ -48,7 +48,7 @@ not-false true e = refl
 not-false false e = sym e
 
 -- the period of a good gauge is above zero
-positive-period : (g : Gauge) → good g ≡ true → isPositive (classOf binary64 (periodOf g)) ≡ true
+pub positive-period : (g : Gauge) → good g ≡ true → isPositive (classOf binary64 (periodOf g)) ≡ true
 unfolding good
 positive-period (turn p) e = e
 positive-period (roller p o) e = go (isPositive (classOf binary64 p)) (not (bad o)) e
@@ -82,51 +82,45 @@ only-bad nan b p s = rw (positive-tests b p .0)
 only-bad (infinite n) b p s = rw (positive-tests b p .0, positive-tests b p .1)
 only-bad (finite v) b p s = rw (positive-tests b p .0, positive-tests b p .1, positive-tests b p .2)
 
-module _ (g : Gauge) (x : ℕ) where
-  -- what is divided, and its remainder
-  abbrev divided : ℕ
-  divided = shifted g x
+-- the remainder of x by a period above zero, from what the library told
+module _ (p x : ℕ) (above : isPositive (classOf binary64 p) ≡ true) (a : RemainderAnswer)
+    (told : remainderMeaning binary64 a ≡ remainder binary64 Truncated x p) where
+  abbrev left : ℕ
+  left = cond (bad x) (houseNan binary64) (remainder binary64 Truncated x p .value)
 
-  abbrev left : Remainder
-  left = remainder binary64 Truncated divided (periodOf g)
+  number-tells : eqb (remainder binary64 Truncated x p .number) 0 ≡ not (bad x)
+  number-tells =
+      ap (λ (n : ℕ). eqb n 0) (number-of x p) ∙ only-bad (classOf binary64 x) (classOf binary64 p) above (supported binary64 refl x)
 
-  fold-bad : bad divided ≡ true → foldReading g x ≡ houseNan binary64
-  unfolding foldReading
-  fold-bad e = rw e
+  pub finished : (v : Pattern) (q : ℕ) → a ≡ Finished v q → v .low ≡ left
+  unfolding remainderMeaning
+  finished v q e =
+      let is : remainder binary64 Truncated x p ≡ record { number = 0; value = joined v; quotient = q } = sym told ∙ ap (remainderMeaning binary64) e in
+      let small = remainder-small binary64 regular64 Truncated x p in
+      let fits : joined v < 2 ^ 64 = rw is at small in
+      let z : not (bad x) ≡ true = sym number-tells ∙ ap (λ (r : Remainder). eqb (r .number) 0) is in
+      rw (not-true (bad x) z, is) (omega arith)
 
-  fold-finite : bad divided ≡ false → foldReading g x ≡ left .value
-  unfolding foldReading
-  fold-finite e = rw e
+  pub refused : (w : Refusal) → a ≡ Refused w → houseNan binary64 ≡ left
+  unfolding remainderMeaning
+  refused w e =
+      let is = ap (λ (r : Remainder). r .number) (sym told ∙ ap (remainderMeaning binary64) e) in
+      let z : not (bad x) ≡ false = sym number-tells ∙ ap (λ (n : ℕ). eqb n 0) is ∙ refusal-some w in
+      rw (not-false (bad x) z)
 
-  -- what it gives passes a float
-  pub fold-passed : passed (foldReading g x) ≡ foldReading g x
-  fold-passed = go (bad divided) refl
-    where
-      go : (t : Bool) → bad divided ≡ t → passed (foldReading g x) ≡ foldReading g x
-      go true e = rw (fold-bad e) house-passed
-      go false e = rw (fold-finite e) (ap (toBits Ieee.binary64) (agrees Ieee.binary64 divided (periodOf g)) ∙ sym (agrees-bits Ieee.binary64 divided (periodOf g)))
+-- the fold of a reading, and that it passes a float
+pub fold-is : (g : Gauge) (x : ℕ)
+    → foldReading g x ≡ cond (bad (shifted g x)) (houseNan binary64) (remainder binary64 Truncated (shifted g x) (periodOf g) .value)
+unfolding foldReading
+fold-is g x = refl
 
-  module _ (h : good g ≡ true) (a : RemainderAnswer) (told : remainderMeaning binary64 a ≡ left) where
-    number-tells : eqb (left .number) 0 ≡ not (bad divided)
-    number-tells =
-        ap (λ (n : ℕ). eqb n 0) (number-of divided (periodOf g))
-        ∙ only-bad (classOf binary64 divided) (classOf binary64 (periodOf g)) (positive-period g h) (supported binary64 refl divided)
-
-    pub finished : (v : Pattern) (q : ℕ) → a ≡ Finished v q → v .low ≡ foldReading g x
-    unfolding remainderMeaning
-    finished v q e =
-        let is : left ≡ record { number = 0; value = joined v; quotient = q } = sym told ∙ ap (remainderMeaning binary64) e in
-        let small = remainder-small binary64 regular64 Truncated divided (periodOf g) in
-        let fits : joined v < 2 ^ 64 = rw is at small in
-        let z : not (bad divided) ≡ true = sym number-tells ∙ ap (λ (r : Remainder). eqb (r .number) 0) is in
-        rw (fold-finite (not-true (bad divided) z), is) (omega arith)
-
-    pub refused : (w : Refusal) → a ≡ Refused w → houseNan binary64 ≡ foldReading g x
-    unfolding remainderMeaning
-    refused w e =
-        let is : left .number ≡ refusalNumber w = ap (λ (r : Remainder). r .number) (sym told ∙ ap (remainderMeaning binary64) e) in
-        let z : not (bad divided) ≡ false = sym number-tells ∙ ap (λ (n : ℕ). eqb n 0) is ∙ refusal-some w in
-        sym (fold-bad (not-false (bad divided) z))
+pub fold-passed : (g : Gauge) (x : ℕ) → passed (foldReading g x) ≡ foldReading g x
+fold-passed g x = rw (fold-is g x) (go (bad (shifted g x)))
+  where
+    go : (t : Bool) → passed (cond t (houseNan binary64) (remainder binary64 Truncated (shifted g x) (periodOf g) .value))
+        ≡ cond t (houseNan binary64) (remainder binary64 Truncated (shifted g x) (periodOf g) .value)
+    go true = house-passed
+    go false = ap (toBits Ieee.binary64) (agrees Ieee.binary64 (shifted g x) (periodOf g)) ∙ sym (agrees-bits Ieee.binary64 (shifted g x) (periodOf g))
 
 pub point-kept : (g : Gauge) (p : Point) → not (good g) ≡ true → foldPoint g p ≡ record { number = 15; point = p }
 unfolding foldPoint first

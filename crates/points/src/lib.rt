@@ -10,9 +10,13 @@ use gauges::Gauge;
 use gauges::is_good;
 use remainder::patterns::remainder64;
 ghost use mathlib.Core.Path.{_≡_};
-ghost use mathlib.Core.Bool.{true};
+ghost use mathlib.Core.Bool.{true, cond};
+ghost use Rattle.definitions.specs.Format.{binary64, classOf, houseNan};
+ghost use Rattle.definitions.specs.Remainder.{remainder};
+ghost use Rattle.definitions.specs.declared.Kind.the-variants.{Truncated};
+ghost use Rattle.definitions.specs.Fold.{bad};
 ghost use Rattle.definitions.specs.Stem as stem;
-ghost use Rattle.definitions.specs.Stem.{periodOf, good, foldReading, foldPoint};
+ghost use Rattle.definitions.specs.Stem.{periodOf, isPositive, good, foldReading, foldPoint};
 ghost use Rattle.gauges.specs.Held.{gaugeBits};
 ghost use Rattle.points.specs.Held.{pointBits, foldedBits};
 
@@ -46,15 +50,22 @@ fn shifted(gauge: Gauge, reading: u64) -> u64
     }
 }
 
-// By a gauge that is good, only what is not finite has no remainder.
+// The remainder by a period above zero. What is not finite has none.
+fn remainder_by(period: u64, x: u64) -> u64
+    requires { ⌜ isPositive (classOf binary64 period) ≡ true ⌝ }
+    ensures { λ r. ⌜ r ≡ cond (bad x) (houseNan binary64) (remainder binary64 Truncated x period .value) ⌝ }
+{
+    match remainder64(x, period, Kind::Truncated) {
+        RemainderAnswer::Finished { value, quotient: _ } => value.low,
+        RemainderAnswer::Refused(_) => Binary64::HOUSE_NAN,
+    }
+}
+
 fn fold_reading(gauge: Gauge, reading: u64) -> u64
     requires { ⌜ good (gaugeBits gauge) ≡ true ⌝ }
     ensures { λ r. ⌜ r ≡ foldReading (gaugeBits gauge) reading ⌝ }
 {
-    match remainder64(shifted(gauge, reading), period_of(gauge), Kind::Truncated) {
-        RemainderAnswer::Finished { value, quotient: _ } => value.low,
-        RemainderAnswer::Refused(_) => Binary64::HOUSE_NAN,
-    }
+    remainder_by(period_of(gauge), shifted(gauge, reading))
 }
 
 pub fn fold_point(gauge: Gauge, point: Point) -> FoldedPoint

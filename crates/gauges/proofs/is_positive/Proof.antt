@@ -1,8 +1,4 @@
-use mathlib.Core.Path.{_≡_, refl, sym, _∙_}
-use mathlib.Core.Bool.{false}
-use Rattle.operands.specs.declared.Operand.{Operand}
-use Rattle.operands.proofs.Cases.{other-cases}
-use Rattle.gauges.proofs.Judged.{positiveOperand, positive-is}
+use Rattle.gauges.proofs.Judged.{positive-is}
 use borrow.Author.Needs.{needs}
 use Rattle.gauges.proofs.is_positive.Statement.{statement}
 use Rattle.gauges.proofs.is_positive.Tie as tie
@@ -10,26 +6,72 @@ use Rattle.gauges.proofs.is_positive.Reads as reads
 use Rattle.gauges.proofs.is_positive.Lts as lts
 use Rattle.formats.proofs.binary.Binary64.of_pattern.Reads as of-pattern-reads
 
--- src/lib.rt:59:19
+-- src/lib.rt:43:19
 of-pattern-requires : tie.Need-of-pattern-requires
 of-pattern-requires c κs = search needs
 
--- src/lib.rt:60:28
+-- src/lib.rt:45:33
+enum-told : tie.Need-enum-told
+enum-told c = search needs
+
+-- src/lib.rt:46:25
+enum-told-2 : tie.Need-enum-told-2
+enum-told-2 c = search needs
+
+-- src/lib.rt:47:33
+enum-told-3 : tie.Need-enum-told-3
+enum-told-3 c = search needs
+
+-- src/lib.rt:48:29
+enum-told-4 : tie.Need-enum-told-4
+enum-told-4 c = search needs
+
+-- src/lib.rt:49:25
 enum-known-operand : tie.Need-enum-known-operand
 enum-known-operand c = search needs
 
--- src/lib.rt:56:1
+-- src/lib.rt:40:1
 returns : tie.Need-returns
 returns c =
-    let o = c .before .before .before .before in
-    rw (← positive-is (o .before .args .pattern) (o .of-pattern .result .operand) (o .of-pattern .ensures), c .before .before .operand .given .1)
+    let o = c .before .before in
+    positive-is (o .before .args .pattern) (o .of-pattern .result .operand) (o .of-pattern .ensures) _ (c .enum-told .given .1)
 
--- src/lib.rt:56:1
+-- src/lib.rt:40:1
 returns-2 : tie.Need-returns-2
 returns-2 c =
-    let o = c .before in
-    other-cases (λ (x : Operand). false ≡ positiveOperand x) refl refl (λ n. refl) (λ n. refl) (o .of-pattern .result .operand) (c .match .keys2)
-    ∙ positive-is (o .before .args .pattern) (o .of-pattern .result .operand) (o .of-pattern .ensures)
+    let o = c .before .before in
+    positive-is (o .before .args .pattern) (o .of-pattern .result .operand) (o .of-pattern .ensures) _ (c .enum-told2 .given .1)
+
+-- src/lib.rt:40:1
+returns-3 : tie.Need-returns-3
+returns-3 c =
+    let o = c .before .before in
+    positive-is (o .before .args .pattern) (o .of-pattern .result .operand) (o .of-pattern .ensures) _ (c .enum-told3 .given .1)
+
+-- src/lib.rt:40:1
+returns-4 : tie.Need-returns-4
+returns-4 c =
+    let o = c .before .before in
+    positive-is (o .before .args .pattern) (o .of-pattern .result .operand) (o .of-pattern .ensures) _ (c .enum-told4 .given .1)
+
+-- src/lib.rt:40:1
+returns-5 : tie.Need-returns-5
+returns-5 c =
+    let o = c .before .before .before .before in
+    positive-is (o .before .args .pattern) (o .of-pattern .result .operand) (o .of-pattern .ensures) _ (c .before .before .operand .given .1)
 
 pub is-positive-spec : {M : Type 1} → statement M
-is-positive-spec = tie.close (tie.spec of-pattern-requires enum-known-operand returns returns-2)
+is-positive-spec =
+    tie.close
+    (tie.spec
+    of-pattern-requires
+    enum-told
+    enum-told-2
+    enum-told-3
+    enum-told-4
+    enum-known-operand
+    returns
+    returns-2
+    returns-3
+    returns-4
+    returns-5)
