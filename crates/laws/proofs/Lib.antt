@@ -10,6 +10,9 @@ pub mod Division
 pub mod Agrees
 pub mod Round
 pub mod Subtraction
+pub mod Sticky
+pub mod RoundedTo
+pub mod Difference
 pub mod Scaling
 pub mod Splitting
 pub mod Small

@@ -52,7 +52,7 @@ round-nothing n k some h =
     rw (div-eq-of-lt l, mod-eq-of-lt l, not-zero n some, le-ltb (2 ^ k) (2 * n) h, and-false (eqb (2 ^ k) (2 * n)))
 
 -- a quotient is at most one more than the plain one
-round-near : (n k : ℕ) → round n k .quotient ≤ n / 2 ^ k + 1
+pub round-near : (n k : ℕ) → round n k .quotient ≤ n / 2 ^ k + 1
 unfolding round
 round-near n k = go (roundsUp Nearest (n / 2 ^ k) (n % 2 ^ k) (2 ^ k))
   where

@@ -12,10 +12,12 @@ use Rattle.definitions.specs.Numbers.{first, accepted}
 use Rattle.definitions.specs.Division.{finish, finishBy}
 use Rattle.definitions.specs.Remainder.{remainderOf, remainder, refusedValue}
 use Rattle.definitions.specs.Scale.{scaleClass, scaleOf, scaleReport, significandOf, splitOf, splitReport}
+use Rattle.definitions.specs.Difference.{differenceClass, difference}
 use Rattle.definitions.specs.declared.Kind.{Kind}
 use Rattle.laws.proofs.Division.{finish-held}
 use Rattle.laws.proofs.RoundTrip.{pattern-small, read-holds, infinite-small, house-nan-small}
 use Rattle.laws.proofs.Scaling.{scale-class-held}
+use Rattle.laws.proofs.Difference.{difference-holds}
 use Rattle.laws.proofs.Splitting.{significand-held}
 
 module _ (f : Format) (r : Regular f) where
@@ -58,6 +60,10 @@ module _ (f : Format) (r : Regular f) where
   holds-small nan h = house-nan-small f r
   holds-small (infinite n) h = infinite-small f r n
   holds-small (finite v) h = pattern-small f r v h
+
+  pub difference-small : (x y : ℕ) → difference f x y < patterns f
+  unfolding difference
+  difference-small x y = holds-small (differenceClass f (classOf f x) (classOf f y)) (difference-holds f r (classOf f x) (classOf f y))
 
   scaled-small : (x : ℕ) (k : ℤ) (c : Class) → classOf f x ≡ c → Holds f c → scaleReport f x k .value < patterns f
   unfolding scaleReport scaleOf scaleClass first

@@ -1,1 +1,2 @@
--- Nothing of its own: the laws speak of crates/definitions, and Agrees of the toolchain's IEEE 754 besides.
+-- The laws speak of crates/definitions, Agrees of the toolchain's IEEE 754 besides, and Sticky and RoundedTo of a cut of their own.
+pub mod OddCut
