@@ -4,6 +4,3 @@ use Rattle.sums.specs.declared.SignedWord.{SignedWord}
 
 abbrev pub signedOf : Value → SignedWord
 signedOf v = record { negative = v .negative; word = v .count }
-
-abbrev pub valueOf : SignedWord → Value
-valueOf w = record { negative = w .negative; count = w .word }

@@ -29,32 +29,31 @@ pub fn odd_cut(n: u64, places: u32) -> u64
     quotient / 2 * 2 + 1
 }
 
-// x − y. Of two signs the words add up; where nothing is left of two equal ones it is +0.
-pub fn subtract(x: SignedWord, y: SignedWord) -> SignedWord
-    requires { ⌜ x .word + y .word < 2 ^ 64 ⌝ }
-    ensures { λ r. ⌜ r ≡ signedOf (exactDifference (record { negative = x .negative; count = x .word }) (record { negative = y .negative; count = y .word })) ⌝ }
+// x − y, where `negative` is the sign of x and `other` that of y. Of two signs the words add up, and of two equal values it is +0.
+pub fn subtract(negative: bool, x: u64, other: bool, y: u64) -> SignedWord
+    requires { ⌜ x + y < 2 ^ 64 ⌝ }
+    ensures { λ r. ⌜ r ≡ signedOf (exactDifference (record { negative = negative; count = x }) (record { negative = other; count = y })) ⌝ }
 {
-    let negative = x.negative;
-    if negative == y.negative {
-        if y.word < x.word {
-            return SignedWord {
-                negative,
-                word: x.word - y.word,
-            };
-        }
-        if x.word < y.word {
-            return SignedWord {
-                negative: !negative,
-                word: y.word - x.word,
-            };
-        }
+    if negative != other {
         return SignedWord {
-            negative: false,
-            word: 0,
+            negative,
+            word: x + y,
+        };
+    }
+    if y < x {
+        return SignedWord {
+            negative,
+            word: x - y,
+        };
+    }
+    if x < y {
+        return SignedWord {
+            negative: !negative,
+            word: y - x,
         };
     }
     SignedWord {
-        negative,
-        word: x.word + y.word,
+        negative: false,
+        word: 0,
     }
 }
