@@ -2,6 +2,7 @@
 use mathlib.Core.Path.{_≡_, refl, sym, ap, _∙_}
 use mathlib.Core.Bool.{Bool, true, false, not, cond, _&&_, Bool·beq}
 use Prim.Native.Nat.{ℕ, zero, suc, _+_, _-_, _≤_, _<_}
+use native.Mathlib.Nat.{sub-zero, zero-add}
 use native.Mathlib.Omega.{arith}
 use borrow.Author.Tests.{lt-ltb, le-ltb, ltb-true, ltb-false}
 use lib.Dec.{T, ltb, ltb→lt, nltb→le, eqb, eqb·suc-zero}
@@ -94,6 +95,30 @@ difference-swap s t n m = difference-cases (of (not t) m) (of (not s) n) ∙ go 
     go true false = ap (of true) (omega arith)
     go false true = ap (of false) (omega arith)
 
+-- of two zeros, and where one of the two is a zero
+pub zero-zero : (s t : Bool) → exactDifference (of s 0) (of t 0) ≡ of (cond (Bool·beq s t) false s) 0
+unfolding exactDifference
+zero-zero true true = refl
+zero-zero true false = refl
+zero-zero false true = refl
+zero-zero false false = refl
+
+pub zero-less : (s t : Bool) (m : ℕ) → 0 < m → exactDifference (of s 0) (of t m) ≡ of (not t) m
+zero-less s t m h = difference-cases (of s 0) (of t m) ∙ go s t
+  where
+    go : (s t : Bool) → byCases (Bool·beq s t) (of s 0) (of t m) ≡ of (not t) m
+    go true true = rw (le-ltb m 0 (omega arith), lt-ltb 0 m h) (ap (of false) (sub-zero m))
+    go false false = rw (le-ltb m 0 (omega arith), lt-ltb 0 m h) (ap (of true) (sub-zero m))
+    go true false = ap (of true) (zero-add m)
+    go false true = ap (of false) (zero-add m)
+
+pub less-zero : (s t : Bool) (n : ℕ) → 0 < n → exactDifference (of s n) (of t 0) ≡ of s n
+less-zero s t n h = sym (difference-swap s t n 0) ∙ zero-less (not t) (not s) n h ∙ ap (λ (b : Bool). of b n) (twice s)
+  where
+    twice : (t : Bool) → not (not t) ≡ t
+    twice true = refl
+    twice false = refl
+
 -- ---- rounded and limited
 
 pub value-is : (f : Format) (x y : Value) → (let d = exactDifference x y in differenceValue f x y ≡ limited f (d .negative) (roundedTo (f .precision) (d .count)))
@@ -117,6 +142,10 @@ module _ (f : Format) (r : Regular f) where
   -- and what the format holds is not rounded
   pub limited-held : (s : Bool) (n : ℕ) → Representable f n → limited f s (roundedTo (f .precision) n) ≡ finite (of s n)
   limited-held s n h = ap (limited f s) (rounded-held f n h) ∙ limited-finite s n (h .range)
+
+  pub difference-held : (x y d : Value) → exactDifference x y ≡ d → Representable f (d .count) → differenceValue f x y ≡ finite d
+  difference-held x y d e h =
+      value-is f x y ∙ ap (λ (v : Value). limited f (v .negative) (roundedTo (f .precision) (v .count))) e ∙ limited-held (d .negative) (d .count) h
 
   value-holds : (x y : Value) → Holds f (differenceValue f x y)
   value-holds x y = let d = exactDifference x y in rw (value-is f x y) (limited-holds (d .negative) (roundedTo (f .precision) (d .count)) (rounded-digits (f .precision) (d .count) (omega arith)))

@@ -1,0 +1,5 @@
+pub mod Aligned
+pub mod Limited
+pub mod Halves
+pub mod Zeros
+pub mod OfPatterns

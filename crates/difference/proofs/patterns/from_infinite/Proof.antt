@@ -1,0 +1,61 @@
+-- `from_infinite` meets its contract, case by case. Assumes nothing.
+use Rattle.operands.specs.Operand.{operandOf, classIn}
+use Rattle.definitions.specs.Difference.{differenceClass}
+use borrow.Author.Needs.{needs}
+use Rattle.difference.proofs.patterns.from_infinite.Statement.{statement}
+use Rattle.difference.proofs.patterns.from_infinite.Tie as tie
+
+enum-told : tie.Need-enum-told
+enum-told c = search needs
+
+enum-told-2 : tie.Need-enum-told-2
+enum-told-2 c = search needs
+
+enum-known-y : tie.Need-enum-known-y
+enum-known-y c = search needs
+
+returns : tie.Need-returns
+unfolding operandOf classIn differenceClass
+returns c f s = rw (c .before .before .y .given .1, c .if1 .taken)
+
+enum-told-3 : tie.Need-enum-told-3
+enum-told-3 c = search needs
+
+enum-told-4 : tie.Need-enum-told-4
+enum-told-4 c = search needs
+
+returns-2 : tie.Need-returns-2
+unfolding operandOf classIn differenceClass
+returns-2 c f s = rw (c .enum-told .given .1)
+
+returns-3 : tie.Need-returns-3
+unfolding operandOf classIn differenceClass
+returns-3 c f s = rw (c .enum-told2 .given .1)
+
+returns-4 : tie.Need-returns-4
+unfolding operandOf classIn differenceClass
+returns-4 c f s = rw (c .before .before .y .given .1, c .if1 .left)
+
+returns-5 : tie.Need-returns-5
+unfolding operandOf classIn differenceClass
+returns-5 c f s = rw (c .enum-told3 .given .1)
+
+returns-6 : tie.Need-returns-6
+unfolding operandOf classIn differenceClass
+returns-6 c f s = rw (c .enum-told4 .given .1)
+
+pub from-infinite-spec : {M : Type 1} → statement M
+from-infinite-spec =
+    tie.close
+    (tie.spec
+    enum-told
+    enum-told-2
+    enum-known-y
+    returns
+    enum-told-3
+    enum-told-4
+    returns-2
+    returns-3
+    returns-4
+    returns-5
+    returns-6)

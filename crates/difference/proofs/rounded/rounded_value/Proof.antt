@@ -1,0 +1,158 @@
+-- `rounded_value` meets its contract: the leading one is brought to bit 63, and what lies below the precision is rounded off. Assumes nothing.
+use mathlib.Core.Path.{_≡_, sym, ap, _∙_}
+use Prim.Native.Nat.{ℕ, _+_, _-_, _*_, _%_, _^_, _≤_, _<_}
+use native.Mathlib.Nat.{mod-eq-of-lt, pos-of-ne-zero, zero-mul}
+use native.Mathlib.Omega.{arith}
+use lib.Count.{leadingZeros}
+use lib.IntN.{ℤ, pos, _+ℤ_}
+use lib.Signed.{mag}
+use mir.Syntax.{w32}
+use mir.Val.{toZ, ofZ}
+use Rattle.digits.proofs.Signed.{small-back, mag-add}
+use Rattle.digits.proofs.Size.{size-leading}
+use Rattle.digits.proofs.Shift.{leading-under, shifted-small}
+use Rattle.definitions.specs.Format.{Format}
+use Rattle.definitions.specs.Difference.{roundedTo, limited}
+use Rattle.laws.proofs.RoundedTo.{rounded-zero}
+use Rattle.operands.specs.Operand.{normalOf, operandOf}
+use Rattle.shapes.specs.Shape.{formatOf}
+use Rattle.packing.proofs.Standing.{smallest-small}
+use Rattle.rounding.specs.Round.{roundOf}
+use Rattle.rounding.specs.declared.RoundedWord.{RoundedWord}
+use Rattle.difference.specs.Limit.{limitOf}
+use Rattle.difference.proofs.Limited.{limited-zero, limited-is, limit-other, value-near}
+use borrow.Author.Needs.{needs}
+use Rattle.difference.proofs.rounded.rounded_value.Statement.{statement}
+use Rattle.difference.proofs.rounded.rounded_value.Tie as tie
+
+module _ (c : tie.Else1) where
+  abbrev f : Format
+  f = formatOf (c .before .args .shape)
+
+  abbrev w : ℕ
+  w = c .before .args .word
+
+  abbrev places : ℕ
+  places = c .before .args .place + 65 - (leadingZeros 64 w + f .precision)
+
+  some : 0 < w
+  some = pos-of-ne-zero (c .if1 .left)
+
+  word : w < 2 ^ 64
+  word = c .before .fits .word .fits
+
+  under : leadingZeros 64 w < 64
+  under = leading-under 64 w some word
+
+  shifted : w * 2 ^ leadingZeros 64 w % 2 ^ 64 ≡ w * 2 ^ leadingZeros 64 w
+  shifted = mod-eq-of-lt (shifted-small 64 w some word)
+
+  fits : leadingZeros 64 w + f .precision ≤ c .before .args .place + 61
+  fits = omega (arith, size-leading 64 w word, c .before .pre .2 some, c .before .pre .1)
+
+  smallest-back : toZ w32 (ofZ w32 (f .smallest)) ≡ f .smallest
+  smallest-back = small-back (f .smallest) (omega (arith, smallest-small f (c .before .pre .0)))
+
+-- the exponent, as it is written and read back
+module _ (p : tie.After-exponent-above) where
+  exponent-is : p .exponent-above .result ≡ f (p .before .before) .smallest +ℤ pos (places (p .before .before))
+  exponent-is = rw (smallest-back (p .before .before)) at (p .exponent-above .ensures)
+
+  exponent-small : mag (p .exponent-above .result) < 2 ^ 20
+  exponent-small =
+      let e = p .before .before in
+      rw exponent-is (omega (arith, mag-add (f e .smallest) (pos (places e)), smallest-small (f e) (e .before .pre .0), e .before .pre .3))
+
+  exponent-back : toZ w32 (ofZ w32 (p .exponent-above .result)) ≡ p .exponent-above .result
+  exponent-back = small-back (p .exponent-above .result) (omega (arith, exponent-small))
+
+-- what is rounded, with its leading one at bit 63
+module _ (q : tie.After-normalise) where
+  abbrev exponent : tie.After-exponent-above
+  exponent = q .before .before
+
+  abbrev else : tie.Else1
+  else = exponent .before .before
+
+  normal-is : q .normalise .result ≡ normalOf (else .before .args .negative) (q .before .round-places .result .quotient) (exponent .exponent-above .result)
+  normal-is = rw (exponent-back exponent) at (q .normalise .ensures)
+
+  limited-as : (n : ℕ) → roundedTo (f else .precision) (w else) * 2 ^ else .before .args .place ≡ n * 2 ^ 62
+      → limitOf (f else .bias) (q .normalise .result) ≡ operandOf (f else .smallest) (limited (f else) (else .before .args .negative) n)
+  limited-as n is =
+      let s = else .before in
+      ap (limitOf (f else .bias))
+      (normal-is ∙ ap (normalOf (s .args .negative) (q .before .round-places .result .quotient)) (exponent-is exponent)
+      ∙ ap (λ (r : RoundedWord). normalOf (s .args .negative) (r .quotient) (f else .smallest +ℤ pos (places else)))
+      (q .before .round-places .ensures ∙ ap (λ (i : ℕ). roundOf i (64 - f else .precision)) (shifted else)))
+      ∙ limited-is (f else .precision) (w else) (s .args .place) n (some else) (word else) (s .pre .2 (some else)) (s .pre .1) is (f else) (s .pre .0 .regular) (s .args .negative)
+
+returns : tie.Need-returns
+returns c n is =
+    let s = c .before in
+    let z = rw (c .if1 .taken, rounded-zero (s .args .shape .precision), zero-mul (2 ^ s .args .place)) at is in
+    sym (limited-zero (formatOf (s .args .shape)) (s .pre .0 .regular) (s .args .negative) n (omega arith))
+
+add-exponent-above : tie.Need-add-exponent-above
+add-exponent-above c = search needs
+
+add-exponent-above-2 : tie.Need-add-exponent-above-2
+add-exponent-above-2 c = record { fits = omega (arith, fits c, c .before .pre .3) }
+
+sub-exponent-above : tie.Need-sub-exponent-above
+sub-exponent-above c = omega (arith, fits c)
+
+exponent-above-requires : tie.Need-exponent-above-requires
+exponent-above-requires c κs =
+    let e = c .before in
+    rw (smallest-back e) (omega (arith, smallest-small (f e) (e .before .pre .0)), omega (arith, e .before .pre .3))
+
+cast-round-places : tie.Need-cast-round-places
+cast-round-places c = record { fits = omega (arith, under (c .before .before)) }
+
+shl-round-places : tie.Need-shl-round-places
+shl-round-places c = under (c .before .before)
+
+sub-round-places : tie.Need-sub-round-places
+sub-round-places c = search needs
+
+round-places-requires : tie.Need-round-places-requires
+round-places-requires c κs = search needs
+
+normalise-requires : tie.Need-normalise-requires
+normalise-requires c κs = rw (exponent-back (c .before)) (exponent-small (c .before))
+
+enum-known-operand : tie.Need-enum-known-operand
+enum-known-operand c = search needs
+
+returns-2 : tie.Need-returns-2
+returns-2 c n is = let q = c .before in limit-other (f (else q) .bias) (q .normalise .result) (c .match .keys2) ∙ limited-as q n is
+
+limit-requires : tie.Need-limit-requires
+limit-requires c κs =
+    let q = c .before .before .before in
+    (value-near _ _ _ _ (exponent-small (exponent q)) (sym (normal-is q) ∙ c .before .operand .given .1), omega (arith, else q .before .pre .0 .short))
+
+returns-3 : tie.Need-returns-3
+returns-3 c n is =
+    let q = c .before .before .before .before in
+    c .limit .ensures ∙ ap (limitOf (f (else q) .bias)) (sym (c .before .before .operand .given .1)) ∙ limited-as q n is
+
+pub rounded-value-spec : {M : Type 1} → statement M
+rounded-value-spec =
+    tie.close
+    (tie.spec
+    returns
+    add-exponent-above
+    add-exponent-above-2
+    sub-exponent-above
+    exponent-above-requires
+    cast-round-places
+    shl-round-places
+    sub-round-places
+    round-places-requires
+    normalise-requires
+    enum-known-operand
+    returns-2
+    limit-requires
+    returns-3)
