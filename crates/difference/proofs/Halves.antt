@@ -21,8 +21,8 @@ use Rattle.operands.proofs.Lead.{lead, lead-top, lead-exact, some-operand}
 use Rattle.shapes.specs.Shape.{Sound}
 use Rattle.packing.specs.Stands.{StandsValue}
 use Rattle.packing.proofs.Standing.{unpacks, stands-value}
-use Rattle.powers.proofs.Places.{Placed, placed}
-use Rattle.difference.specs.Limit.{oppositeOf}
+use Rattle.packing.proofs.Places.{Placed, placed}
+use Rattle.difference.specs.Opposite.{oppositeOf}
 use Rattle.difference.proofs.Aligned.{Agrees, words-agree, odd-below}
 
 -- a significand of at most 62 digits leaves two below them

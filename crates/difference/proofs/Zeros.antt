@@ -15,7 +15,7 @@ use Rattle.operands.proofs.Lead.{zero-operand}
 use Rattle.shapes.specs.Shape.{Sound}
 use Rattle.packing.specs.Stands.{StandsValue}
 use Rattle.packing.proofs.Standing.{unpacks}
-use Rattle.difference.specs.Limit.{oppositeOf}
+use Rattle.difference.specs.Opposite.{oppositeOf}
 use Rattle.difference.proofs.Halves.{opposite-operand}
 
 abbrev of : Bool → ℕ → Value

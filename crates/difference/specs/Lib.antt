@@ -1,1 +1,1 @@
-pub mod Limit
+pub mod Opposite

@@ -1,4 +1,3 @@
 // The difference of two patterns, rounded once, ties to even.
 pub mod patterns;
-pub mod rounded;
 pub mod values;

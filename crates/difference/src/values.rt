@@ -1,11 +1,11 @@
 // The difference of two values, the same for every format that leaves spare digits in a word.
-use crate::rounded::rounded_value;
 use operands::Operand;
 use operands::Unpacked;
 use operands::place_of;
 use shapes::shape::Shape;
-use sums::odd_cut;
-use sums::subtract;
+use sums::rounded::rounded_value;
+use sums::words::odd_cut;
+use sums::words::subtract;
 ghost use mathlib.Core.Path.{_≡_};
 ghost use Prim.Native.Nat.{_+_, _≤_};
 ghost use Rattle.definitions.specs.Difference.{differenceValue};
@@ -13,7 +13,7 @@ ghost use Rattle.operands.specs.Operand.{operandOf, placeIn, valueIn};
 ghost use Rattle.operands.specs.declared.Operand.the-variants.{Finite};
 ghost use Rattle.shapes.specs.Shape.{formatOf, Sound};
 ghost use Rattle.packing.specs.Stands.{StandsValue};
-ghost use Rattle.difference.specs.Limit.{oppositeOf};
+ghost use Rattle.difference.specs.Opposite.{oppositeOf};
 
 pub fn opposite(value: Unpacked) -> Unpacked
     ensures { λ r. ⌜ r ≡ oppositeOf value ⌝ }

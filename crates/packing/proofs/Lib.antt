@@ -1,3 +1,4 @@
 pub mod Standing
 pub mod Reading
 pub mod Packing
+pub mod Places

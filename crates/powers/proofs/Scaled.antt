@@ -26,11 +26,11 @@ use Rattle.operands.proofs.Normal.{normal-operand}
 use Rattle.shapes.specs.Shape.{Sound}
 use Rattle.packing.specs.Stands.{Stands}
 use Rattle.packing.proofs.Standing.{class-of, stands-class}
+use Rattle.packing.proofs.Places.{Placed}
 use Rattle.powers.specs.Power.{far, offsetOf}
 use Rattle.powers.specs.Scaled.{scaledOf}
 use Rattle.powers.specs.declared.value.ScaledOperand.{ScaledOperand}
 use Rattle.powers.proofs.Powers.{scale-offset}
-use Rattle.powers.proofs.Places.{Placed}
 
 module _ (f : Format) (ok : Sound f) (v : Value) (u : Unpacked) (p : Placed f v u) (k : ℤ) where
   abbrev s : ℤ

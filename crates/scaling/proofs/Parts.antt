@@ -19,7 +19,7 @@ use Rattle.operands.proofs.Lead.{lead, lead-exact, some-operand}
 use Rattle.shapes.specs.Shape.{Sound}
 use Rattle.packing.specs.Stands.{Stands}
 use Rattle.packing.proofs.Standing.{held-digits, class-of, stands-class}
-use Rattle.powers.proofs.Places.{Placed}
+use Rattle.packing.proofs.Places.{Placed}
 
 -- the operand with its leading one at the place of 1
 abbrev pub atOne : Unpacked → Unpacked

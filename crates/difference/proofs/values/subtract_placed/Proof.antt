@@ -11,9 +11,9 @@ use Rattle.laws.specs.OddCut.{oddCut}
 use Rattle.laws.proofs.Difference.{value-is}
 use Rattle.operands.specs.Operand.{operandOf, valueIn}
 use Rattle.shapes.specs.Shape.{formatOf}
-use Rattle.powers.proofs.Places.{placed}
+use Rattle.packing.proofs.Places.{placed}
 use Rattle.sums.specs.Signed.{signedOf}
-use Rattle.sums.specs.declared.SignedWord.{SignedWord}
+use Rattle.sums.specs.declared.words.SignedWord.{SignedWord}
 use Rattle.difference.proofs.Aligned.{Agrees}
 use Rattle.difference.proofs.Halves.{sum-small, values-agree}
 use borrow.Author.Needs.{needs}

@@ -13,8 +13,8 @@ use Rattle.operands.specs.declared.Unpacked.{Unpacked}
 use Rattle.shapes.specs.Shape.{formatOf}
 use Rattle.packing.specs.Stands.{StandsValue}
 use Rattle.packing.proofs.Standing.{smallest-small}
-use Rattle.powers.proofs.Places.{Placed, placed}
-use Rattle.difference.specs.Limit.{oppositeOf}
+use Rattle.packing.proofs.Places.{Placed, placed}
+use Rattle.difference.specs.Opposite.{oppositeOf}
 use Rattle.difference.proofs.Halves.{opposite-stands, opposite-difference}
 use borrow.Author.Needs.{needs}
 use Rattle.difference.proofs.values.subtract_values.Statement.{statement}

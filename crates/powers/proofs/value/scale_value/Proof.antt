@@ -13,8 +13,8 @@ use Rattle.definitions.specs.Format.{Format, reach}
 use Rattle.operands.specs.Operand.{valueIn}
 use Rattle.shapes.specs.Shape.{formatOf}
 use Rattle.packing.proofs.Standing.{smallest-small}
+use Rattle.packing.proofs.Places.{Placed, top-above, top-place, placed}
 use Rattle.powers.proofs.Powers.{offset-small}
-use Rattle.powers.proofs.Places.{Placed, top-above, top-place, placed}
 use Rattle.powers.proofs.Scaled.{place, scaled-infinite, scaled-exact, scaled-rounded}
 use borrow.Author.Needs.{needs}
 use Rattle.powers.proofs.value.scale_value.Statement.{statement}

@@ -19,7 +19,7 @@ use Rattle.shapes.specs.Shape.{formatOf}
 use Rattle.packing.specs.Stands.{Stands, StandsValue}
 use Rattle.powers.specs.Scaled.{scaledOf}
 use Rattle.packing.proofs.Standing.{stands-unpacked}
-use Rattle.powers.proofs.Places.{Placed, placed}
+use Rattle.packing.proofs.Places.{Placed, placed}
 use Rattle.powers.proofs.Scaled.{scaled-stands, scaled-report}
 use borrow.Author.Needs.{needs}
 use Rattle.scaling.proofs.scale.scale_of.Statement.{statement}

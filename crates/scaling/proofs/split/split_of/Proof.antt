@@ -10,7 +10,7 @@ use Rattle.operands.specs.Operand.{classIn, valueIn}
 use Rattle.shapes.specs.Shape.{formatOf}
 use Rattle.packing.specs.Stands.{Stands}
 use Rattle.packing.proofs.Standing.{stands-unpacked}
-use Rattle.powers.proofs.Places.{Placed, placed}
+use Rattle.packing.proofs.Places.{Placed, placed}
 use Rattle.scaling.proofs.Parts.{parts-stand, parts-report}
 use borrow.Author.Needs.{needs}
 use Rattle.scaling.proofs.split.split_of.Statement.{statement}

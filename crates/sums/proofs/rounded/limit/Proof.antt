@@ -4,8 +4,8 @@ use mir.Syntax.{w32}
 use mir.ValLaws.{toZ-pos}
 use Rattle.digits.proofs.Signed.{small-back}
 use borrow.Author.Needs.{needs}
-use Rattle.difference.proofs.rounded.limit.Statement.{statement}
-use Rattle.difference.proofs.rounded.limit.Tie as tie
+use Rattle.sums.proofs.rounded.limit.Statement.{statement}
+use Rattle.sums.proofs.rounded.limit.Tie as tie
 
 cast-if1 : tie.Need-cast-if1
 cast-if1 c = search needs

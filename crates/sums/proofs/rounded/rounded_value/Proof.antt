@@ -19,11 +19,11 @@ use Rattle.shapes.specs.Shape.{formatOf}
 use Rattle.packing.proofs.Standing.{smallest-small}
 use Rattle.rounding.specs.Round.{roundOf}
 use Rattle.rounding.specs.declared.RoundedWord.{RoundedWord}
-use Rattle.difference.specs.Limit.{limitOf}
-use Rattle.difference.proofs.Limited.{limited-zero, limited-is, limit-other, value-near}
+use Rattle.sums.specs.Limit.{limitOf}
+use Rattle.sums.proofs.Limited.{limited-zero, limited-is, limit-other, value-near}
 use borrow.Author.Needs.{needs}
-use Rattle.difference.proofs.rounded.rounded_value.Statement.{statement}
-use Rattle.difference.proofs.rounded.rounded_value.Tie as tie
+use Rattle.sums.proofs.rounded.rounded_value.Statement.{statement}
+use Rattle.sums.proofs.rounded.rounded_value.Tie as tie
 
 module _ (c : tie.Else1) where
   abbrev f : Format

@@ -13,7 +13,7 @@ ghost use Rattle.definitions.specs.Difference.{roundedTo, limited};
 ghost use Rattle.operands.specs.Operand.{operandOf};
 ghost use Rattle.operands.specs.declared.Operand.the-variants.{Finite};
 ghost use Rattle.shapes.specs.Shape.{formatOf, Sound};
-ghost use Rattle.difference.specs.Limit.{limitOf};
+ghost use Rattle.sums.specs.Limit.{limitOf};
 
 // The exponent that lies some places above the smallest place.
 fn exponent_above(smallest: i32, places: u32) -> i32

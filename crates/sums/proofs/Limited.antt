@@ -32,7 +32,7 @@ use Rattle.operands.specs.declared.Unpacked.{Unpacked}
 use Rattle.operands.proofs.Operand.{the-type}
 use Rattle.operands.proofs.Cases.{other-cases}
 use Rattle.definitions.specs.Difference.{roundedTo, limited}
-use Rattle.difference.specs.Limit.{limitOf}
+use Rattle.sums.specs.Limit.{limitOf}
 use Rattle.laws.proofs.RoundedTo.{rounded-shift}
 
 module _ (f : Format) (r : Regular f) (s : Bool) (c : ℕ) where

@@ -5,8 +5,8 @@ use mir.Syntax.{w32}
 use mir.ValLaws.{toZ-ofZ, toZ-pos}
 use Rattle.digits.proofs.Signed.{add-fits, add-is}
 use borrow.Author.Needs.{needs}
-use Rattle.difference.proofs.rounded.exponent_above.Statement.{statement}
-use Rattle.difference.proofs.rounded.exponent_above.Tie as tie
+use Rattle.sums.proofs.rounded.exponent_above.Statement.{statement}
+use Rattle.sums.proofs.rounded.exponent_above.Tie as tie
 
 cast-result : tie.Need-cast-result
 cast-result c = search needs

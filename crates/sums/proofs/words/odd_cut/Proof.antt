@@ -8,8 +8,8 @@ use lib.Pow.{pow-pos, pow-lt, pow-mono}
 use Rattle.laws.specs.OddCut.{oddCut}
 use Rattle.laws.proofs.Sticky.{odd-zero, odd-all}
 use borrow.Author.Needs.{needs}
-use Rattle.sums.proofs.odd_cut.Statement.{statement}
-use Rattle.sums.proofs.odd_cut.Tie as tie
+use Rattle.sums.proofs.words.odd_cut.Statement.{statement}
+use Rattle.sums.proofs.words.odd_cut.Tie as tie
 
 power : (c : tie.Else1) → 1 * 2 ^ c .before .args .places % 2 ^ 64 ≡ 2 ^ c .before .args .places
 power c = rw one-mul (mod-eq-of-lt (pow-lt {j = 64} (omega arith)))

@@ -7,8 +7,8 @@ use Rattle.definitions.specs.Difference.{exactDifference}
 use Rattle.laws.proofs.Difference.{byCases, difference-cases}
 use Rattle.sums.specs.Signed.{signedOf}
 use borrow.Author.Needs.{needs}
-use Rattle.sums.proofs.subtract.Statement.{statement}
-use Rattle.sums.proofs.subtract.Tie as tie
+use Rattle.sums.proofs.words.subtract.Statement.{statement}
+use Rattle.sums.proofs.words.subtract.Tie as tie
 
 -- the difference, once the signs are compared
 module _ (s : tie.Start) where
