@@ -1,6 +1,5 @@
 -- Two values as the code has them unpacked: the words that it subtracts, and values of the other sign. Assumes nothing.
 use mathlib.Core.Path.{_≡_, refl, sym, ap, _∙_, subst}
-use mathlib.Core.Bool.{Bool, not}
 use Prim.Native.Nat.{ℕ, _+_, _-_, _*_, _/_, _%_, _^_, _≤_, _<_, _∣_}
 use native.Mathlib.Nat.{mul-le-mul-right, mod-eq-zero-of-dvd, dvd-trans, mul-dvd-mul-right, dvd-of-mul-dvd-mul-right}
 use native.Mathlib.Omega.{arith}
@@ -14,7 +13,6 @@ use Rattle.definitions.specs.Difference.{exactDifference, roundedTo, limited, d
 use Rattle.laws.specs.OddCut.{oddCut}
 use Rattle.laws.proofs.Difference.{value-is, difference-swap}
 use Rattle.operands.specs.Operand.{unpackedOf, operandOf, placeIn, valueIn}
-use Rattle.operands.specs.declared.Operand.{Operand}
 use Rattle.operands.specs.declared.Operand.the-variants.{Finite}
 use Rattle.operands.specs.declared.Unpacked.{Unpacked}
 use Rattle.operands.proofs.Lead.{lead, lead-top, lead-exact, some-operand}

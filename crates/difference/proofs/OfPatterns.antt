@@ -1,5 +1,5 @@
 -- The difference of operands that are those of patterns is that of the patterns, in every format. Assumes nothing.
-use mathlib.Core.Path.{_≡_, sym, ap, _∙_}
+use mathlib.Core.Path.{_≡_, ap, _∙_}
 use Prim.Native.Nat.{ℕ, _^_, _≤_}
 use native.Mathlib.Omega.{arith}
 use Rattle.definitions.specs.Class.{Class}

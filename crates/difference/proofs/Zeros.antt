@@ -1,7 +1,7 @@
 -- Differences where one of the two operands is a zero. Assumes nothing.
 use mathlib.Core.Path.{_≡_, refl, sym, ap, _∙_}
 use mathlib.Core.Bool.{Bool, false, cond, Bool·beq}
-use Prim.Native.Nat.{ℕ, _≤_}
+use Prim.Native.Nat.{ℕ}
 use Rattle.definitions.specs.Class.{Value}
 use Rattle.definitions.specs.Format.{Format}
 use Rattle.definitions.specs.Difference.{differenceValue}

@@ -12,8 +12,8 @@ use lib.Ieee.{size}
 use Rattle.digits.proofs.Tests.{clash}
 use Rattle.digits.specs.Digits.{Digits}
 use Rattle.definitions.specs.Class.{Value, Class, unsupported, nan, infinite, finite, valueOf}
-use Rattle.definitions.specs.Format.{Format, Regular, Holds, Representable, exponentOf, reach, classOf}
-use Rattle.definitions.specs.Difference.{exactDifference, roundedTo, limited, differenceValue, differenceClass, difference}
+use Rattle.definitions.specs.Format.{Format, Regular, Holds, Representable, exponentOf, reach}
+use Rattle.definitions.specs.Difference.{exactDifference, roundedTo, limited, differenceValue, differenceClass}
 use Rattle.laws.proofs.Gap.{sub-cases}
 use Rattle.laws.proofs.Range.{exponent-above}
 use Rattle.laws.proofs.RoundedTo.{rounded-digits, rounded-held}

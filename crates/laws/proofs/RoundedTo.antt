@@ -17,7 +17,7 @@ use Rattle.definitions.specs.Round.{Rounded, round}
 use Rattle.laws.proofs.Round.{round-same, round-multiple, round-near}
 use Rattle.laws.specs.OddCut.{oddCut}
 use Rattle.definitions.specs.Difference.{roundedTo}
-use Rattle.laws.proofs.Sticky.{round-sticky, odd-size, odd-exact}
+use Rattle.laws.proofs.Sticky.{round-sticky, odd-size}
 
 -- at most p digits are kept as they are
 pub rounded-short : (p n t : ℕ) → size (n * 2 ^ t) ≤ p + t → roundedTo p (n * 2 ^ t) ≡ n * 2 ^ t

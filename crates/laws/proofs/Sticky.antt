@@ -3,18 +3,16 @@
 use mathlib.Core.Path.{_≡_, refl, sym, ap, _∙_}
 use mathlib.Core.Bool.{Bool, true, false, not, cond}
 use Prim.Native.Nat.{ℕ, suc, _+_, _-_, _*_, _/_, _%_, _^_, _≤_, _<_}
-use native.Mathlib.Nat.{mod-lt, mod-add-div, div-add-mod', pos-of-ne-zero, mul-le-mul-right, mul-div-cancel, mul-mod-left, mul-one, zero-mul, zero-add, lt-of-mul-lt-mul-right, two-pow-succ, lt-of-not-le}
+use native.Mathlib.Nat.{mod-lt, div-add-mod', pos-of-ne-zero, mul-le-mul-right, mul-div-cancel, mul-mod-left, mul-one, zero-mul, zero-add, lt-of-mul-lt-mul-right, two-pow-succ, lt-of-not-le}
 use native.Mathlib.Omega.{arith}
-use borrow.Author.Tests.{eq-eqb, ne-eqb, eqb-true, eqb-false, lt-ltb, le-ltb}
+use borrow.Author.Tests.{eqb-true, eqb-false, lt-ltb, le-ltb}
 use lib.Dec.{T, ltb, leb, leb→le, nleb→lt, eqb, lit<}
-use lib.Pow.{pow-add, pow-pos, pow-mono}
+use lib.Pow.{pow-add, pow-pos}
 use lib.Ieee.{size}
 use lib.Ieee.Digits.{size-lt, size-le}
 use Rattle.digits.proofs.Common.{unique-div, unique-mod, sub-scale}
 use Rattle.digits.proofs.Tests.{not-zero}
-use Rattle.digits.proofs.Size.{size-between, size-above, size-mono, size-top, size-pos, size-cut}
-use Rattle.definitions.specs.Division.{roundsUp}
-use Rattle.definitions.specs.declared.Kind.the-variants.{Nearest}
+use Rattle.digits.proofs.Size.{size-between, size-above, size-mono, size-top, size-cut}
 use Rattle.definitions.specs.Round.{Rounded, round}
 use Rattle.laws.proofs.Division.{rounds-up-once}
 use Rattle.laws.proofs.Round.{round-same}

@@ -4,7 +4,6 @@ use mathlib.Core.Bool.{Bool, false, cond}
 use Rattle.definitions.specs.Difference.{differenceClass}
 use Rattle.operands.specs.Operand.{operandOf, classIn}
 use Rattle.operands.specs.declared.Operand.the-variants.{Zero, Finite}
-use Rattle.operands.specs.declared.Unpacked.{Unpacked}
 use Rattle.shapes.specs.Shape.{formatOf}
 use Rattle.packing.specs.Stands.{Stands}
 use Rattle.packing.proofs.Standing.{stands-unpacked}

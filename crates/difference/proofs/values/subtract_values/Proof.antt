@@ -1,12 +1,11 @@
 -- `subtract_values` meets its contract: the value of the higher place goes first. Assumes nothing.
-use mathlib.Core.Path.{_≡_, sym, ap, _∙_, subst}
-use Prim.Native.Nat.{ℕ, _+_, _^_, _<_}
+use mathlib.Core.Path.{_≡_, ap, _∙_}
+use Prim.Native.Nat.{_^_, _<_}
 use native.Mathlib.Omega.{arith}
 use mir.Syntax.{w32}
 use mir.Val.{toZ, ofZ}
 use Rattle.digits.proofs.Signed.{small-back}
 use Rattle.definitions.specs.Format.{Format}
-use Rattle.definitions.specs.Difference.{differenceValue}
 use Rattle.operands.specs.Operand.{operandOf, placeIn, valueIn}
 use Rattle.operands.specs.declared.Operand.the-variants.{Finite}
 use Rattle.operands.specs.declared.Unpacked.{Unpacked}
@@ -14,7 +13,6 @@ use Rattle.shapes.specs.Shape.{formatOf}
 use Rattle.packing.specs.Stands.{StandsValue}
 use Rattle.packing.proofs.Standing.{smallest-small}
 use Rattle.packing.proofs.Places.{Placed, placed}
-use Rattle.difference.specs.Opposite.{oppositeOf}
 use Rattle.difference.proofs.Halves.{opposite-stands, opposite-difference}
 use borrow.Author.Needs.{needs}
 use Rattle.difference.proofs.values.subtract_values.Statement.{statement}

@@ -15,6 +15,7 @@ use Rattle.definitions.specs.Format.{Format}
 use Rattle.definitions.specs.Difference.{roundedTo, limited}
 use Rattle.laws.proofs.RoundedTo.{rounded-zero}
 use Rattle.operands.specs.Operand.{normalOf, operandOf}
+use Rattle.operands.specs.declared.Operand.{Operand}
 use Rattle.shapes.specs.Shape.{formatOf}
 use Rattle.packing.proofs.Standing.{smallest-small}
 use Rattle.rounding.specs.Round.{roundOf}
@@ -31,9 +32,6 @@ module _ (c : tie.Else1) where
 
   abbrev w : ℕ
   w = c .before .args .word
-
-  abbrev places : ℕ
-  places = c .before .args .place + 65 - (leadingZeros 64 w + f .precision)
 
   some : 0 < w
   some = pos-of-ne-zero (c .if1 .left)
@@ -53,18 +51,28 @@ module _ (c : tie.Else1) where
   smallest-back : toZ w32 (ofZ w32 (f .smallest)) ≡ f .smallest
   smallest-back = small-back (f .smallest) (omega (arith, smallest-small f (c .before .pre .0)))
 
--- the exponent, as it is written and read back
-module _ (p : tie.After-exponent-above) where
-  exponent-is : p .exponent-above .result ≡ f (p .before .before) .smallest +ℤ pos (places (p .before .before))
-  exponent-is = rw (smallest-back (p .before .before)) at (p .exponent-above .ensures)
+  -- the exponent t places above the smallest place, as it is written and read back
+  module _ (z : ℤ) (t : ℕ) (e : z ≡ toZ w32 (ofZ w32 (f .smallest)) +ℤ pos t) (l : t < 2 ^ 18) where
+    exponent-is : z ≡ f .smallest +ℤ pos t
+    exponent-is = rw smallest-back at e
 
-  exponent-small : mag (p .exponent-above .result) < 2 ^ 20
-  exponent-small =
-      let e = p .before .before in
-      rw exponent-is (omega (arith, mag-add (f e .smallest) (pos (places e)), smallest-small (f e) (e .before .pre .0), e .before .pre .3))
+    exponent-small : mag z < 2 ^ 20
+    exponent-small = rw exponent-is (omega (arith, mag-add (f .smallest) (pos t), smallest-small f (c .before .pre .0)))
 
-  exponent-back : toZ w32 (ofZ w32 (p .exponent-above .result)) ≡ p .exponent-above .result
-  exponent-back = small-back (p .exponent-above .result) (omega (arith, exponent-small))
+    exponent-back : toZ w32 (ofZ w32 z) ≡ z
+    exponent-back = small-back z (omega (arith, exponent-small))
+
+    -- k places rounded off, and what is left brought to bit 63 again
+    limited-by : (k : ℕ) (a : RoundedWord) (o : Operand) → a ≡ roundOf (w * 2 ^ leadingZeros 64 w % 2 ^ 64) k → o ≡ normalOf (c .before .args .negative) (a .quotient) z
+        → k + f .precision ≡ 64 → t + (leadingZeros 64 w + f .precision) ≡ c .before .args .place + 65
+        → (n : ℕ) → roundedTo (f .precision) w * 2 ^ c .before .args .place ≡ n * 2 ^ 62
+        → limitOf (f .bias) o ≡ operandOf (f .smallest) (limited f (c .before .args .negative) n)
+    limited-by k a o rounds is kept places n counts =
+        let s = c .before in
+        ap (limitOf (f .bias))
+        (is ∙ ap (normalOf (s .args .negative) (a .quotient)) exponent-is
+        ∙ ap (λ (r : RoundedWord). normalOf (s .args .negative) (r .quotient) (f .smallest +ℤ pos t)) (rounds ∙ ap (λ (i : ℕ). roundOf i k) shifted))
+        ∙ limited-is (f .precision) w (s .args .place) n some word counts k t kept places f (s .pre .0 .regular) (s .args .negative)
 
 -- what is rounded, with its leading one at bit 63
 module _ (q : tie.After-normalise) where
@@ -74,18 +82,20 @@ module _ (q : tie.After-normalise) where
   abbrev else : tie.Else1
   else = exponent .before .before
 
+  places-small : (t : ℕ) → t ≤ else .before .args .place + 100 → t < 2 ^ 18
+  places-small t h = omega (arith, else .before .pre .3)
+
+  near : mag (exponent .exponent-above .result) < 2 ^ 20
+  near = exponent-small else _ _ (exponent .exponent-above .ensures) (places-small _ (omega arith))
+
   normal-is : q .normalise .result ≡ normalOf (else .before .args .negative) (q .before .round-places .result .quotient) (exponent .exponent-above .result)
-  normal-is = rw (exponent-back exponent) at (q .normalise .ensures)
+  normal-is = rw (exponent-back else _ _ (exponent .exponent-above .ensures) (places-small _ (omega arith))) at (q .normalise .ensures)
 
   limited-as : (n : ℕ) → roundedTo (f else .precision) (w else) * 2 ^ else .before .args .place ≡ n * 2 ^ 62
       → limitOf (f else .bias) (q .normalise .result) ≡ operandOf (f else .smallest) (limited (f else) (else .before .args .negative) n)
-  limited-as n is =
-      let s = else .before in
-      ap (limitOf (f else .bias))
-      (normal-is ∙ ap (normalOf (s .args .negative) (q .before .round-places .result .quotient)) (exponent-is exponent)
-      ∙ ap (λ (r : RoundedWord). normalOf (s .args .negative) (r .quotient) (f else .smallest +ℤ pos (places else)))
-      (q .before .round-places .ensures ∙ ap (λ (i : ℕ). roundOf i (64 - f else .precision)) (shifted else)))
-      ∙ limited-is (f else .precision) (w else) (s .args .place) n (some else) (word else) (s .pre .2 (some else)) (s .pre .1) is (f else) (s .pre .0 .regular) (s .args .negative)
+  limited-as =
+      limited-by else _ _ (exponent .exponent-above .ensures) (places-small _ (omega arith)) _ _ _ (q .before .round-places .ensures) normal-is
+      (omega (arith, else .before .pre .1)) (omega (arith, fits else))
 
 returns : tie.Need-returns
 returns c n is =
@@ -120,7 +130,10 @@ round-places-requires : tie.Need-round-places-requires
 round-places-requires c κs = search needs
 
 normalise-requires : tie.Need-normalise-requires
-normalise-requires c κs = rw (exponent-back (c .before)) (exponent-small (c .before))
+normalise-requires c κs =
+    let e = c .before .before .before in
+    let l = e .before .pre .3 in
+    rw (exponent-back e _ _ (c .before .exponent-above .ensures) (omega arith)) (exponent-small e _ _ (c .before .exponent-above .ensures) (omega arith))
 
 enum-known-operand : tie.Need-enum-known-operand
 enum-known-operand c = search needs
@@ -131,7 +144,7 @@ returns-2 c n is = let q = c .before in limit-other (f (else q) .bias) (q .norma
 limit-requires : tie.Need-limit-requires
 limit-requires c κs =
     let q = c .before .before .before in
-    (value-near _ _ _ _ (exponent-small (exponent q)) (sym (normal-is q) ∙ c .before .operand .given .1), omega (arith, else q .before .pre .0 .short))
+    (value-near _ _ _ _ (near q) (sym (normal-is q) ∙ c .before .operand .given .1), omega (arith, else q .before .pre .0 .short))
 
 returns-3 : tie.Need-returns-3
 returns-3 c n is =
