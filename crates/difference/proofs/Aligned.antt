@@ -29,9 +29,12 @@ unseen p N g h some even top = go (leb g 1) (leb→le g 1) (nleb→lt g 1)
   where
     exactly : (q : ℕ) → q * 2 ^ g ≡ N → Unseen p N g
     exactly q e =
-        let l : 0 < q = pos-of-ne-zero (λ z. let y = ap (λ (i : ℕ). i * 2 ^ g) z in let x = zero-mul (2 ^ g) in let f : ⊥ = omega arith in f) in
+        let l : 0 < q = pos-of-ne-zero (λ z. omega (arith, ap (λ (i : ℕ). i * 2 ^ g) z, zero-mul (2 ^ g))) in
         subst (λ (i : ℕ). Unseen p i g) e
-        (record { rounds = rounded-shift p q g l ∙ ap (λ (i : ℕ). roundedTo p i * 2 ^ g) (sym (odd-exact q g)); sized = rw (odd-exact q g) (sym (size-shift q g l)) })
+        (record {
+          rounds = rounded-shift p q g l ∙ ap (λ (i : ℕ). roundedTo p i * 2 ^ g) (sym (odd-exact q g));
+          sized = rw (odd-exact q g) (sym (size-shift q g l));
+        })
 
     go : (t : Bool) → (T t → g ≤ 1) → (T (not t) → 1 < g) → Unseen p N g
     go true a b = exactly (N / 2 ^ g) (div-mul-cancel (2 ^ g) (dvd-trans (2 ^ g) (pow-dvd g 1 (a tt)) (dvd-of-mod-eq-zero 2 even)))
@@ -47,18 +50,18 @@ pub record Rounds (p w place n : ℕ) : Type 0 where
 
 settled : (p N g y n : ℕ) → 0 < N → N * 2 ^ y ≡ n * 2 ^ 62 → Unseen p N g → Rounds p (oddCut N g) (y + g) n
 settled p N g y n some e u =
-    let l : 0 < n = pos-of-ne-zero (λ z. let i = ap (λ (i : ℕ). i * 2 ^ 62) z in let x = mul-lt-mul-of-pos-right some (pow-pos y) in let o = zero-mul (2 ^ y) in let f : ⊥ = omega arith in f) in
+    let l : 0 < n = pos-of-ne-zero (λ z. omega (arith, ap (λ (i : ℕ). i * 2 ^ 62) z, mul-lt-mul-of-pos-right some (pow-pos y), zero-mul (2 ^ y))) in
     let j : g + y ≡ y + g = omega arith in
     record {
       rounds =
-          ap (λ (i : ℕ). roundedTo p (oddCut N g) * 2 ^ i) (sym j) ∙ sym (shift-shift (roundedTo p (oddCut N g)) g y) ∙ ap (λ (i : ℕ). i * 2 ^ y) (sym (u .rounds))
-          ∙ sym (rounded-shift p N y some) ∙ ap (roundedTo p) e ∙ rounded-shift p n 62 l;
-      sized = λ h. let a = size-shift N y some in let b = size-shift n 62 l in let c = size-pos n l in omega (arith, u .sized, ap size e);
+          ap (λ (i : ℕ). roundedTo p (oddCut N g) * 2 ^ i) (sym j) ∙ sym (shift-shift (roundedTo p (oddCut N g)) g y)
+          ∙ ap (λ (i : ℕ). i * 2 ^ y) (sym (u .rounds)) ∙ sym (rounded-shift p N y some) ∙ ap (roundedTo p) e ∙ rounded-shift p n 62 l;
+      sized = λ h. omega (arith, u .sized, ap size e, size-shift N y some, size-shift n 62 l, size-pos n l);
     }
 
 nothing : (p place : ℕ) → Rounds p 0 place 0
 nothing p place =
-    record { rounds = rw (rounded-zero p) (zero-mul (2 ^ place)); sized = λ h. let f : ⊥ = omega arith in absurd f }
+    record { rounds = rw (rounded-zero p) (zero-mul (2 ^ place)); sized = λ h. absurd (omega arith) }
 
 -- below an even number before the cut, below it after
 pub odd-below : (a b k : ℕ) → a % 2 ≡ 0 → b < a * 2 ^ k → oddCut b k < a
@@ -85,7 +88,10 @@ module _ (p A b g y n m : ℕ) (narrow : p ≤ 60) (A-top : 2 ^ 62 ≤ A) (b-sma
   high-is = let j : g + y ≡ y + g = omega arith in shift-shift A g y ∙ ap (λ (i : ℕ). A * 2 ^ i) j ∙ n-is
 
   high-even : A * 2 ^ g % 2 ≡ 0
-  high-even = let h : A ≡ A / 2 * 2 = omega (arith, A-even) in let e : A * 2 ^ g ≡ A / 2 * 2 ^ g * 2 = ap (λ (i : ℕ). i * 2 ^ g) h ∙ omega arith in omega arith
+  high-even =
+      let h : A ≡ A / 2 * 2 = omega (arith, A-even) in
+      let e : A * 2 ^ g ≡ A / 2 * 2 ^ g * 2 = ap (λ (i : ℕ). i * 2 ^ g) h ∙ omega arith in
+      omega arith
 
   high-top : 2 ≤ g → 2 ^ 61 * 2 ^ g + b ≤ A * 2 ^ g
   high-top h = let m = mul-le-mul-right (2 ^ g) A-top in let f = pow-mono {i = 2} {j = g} h in omega (arith, b-small)
@@ -115,8 +121,8 @@ module _ (p A b g y n m : ℕ) (narrow : p ≤ 60) (A-top : 2 ^ 62 ≤ A) (b-sma
       let N = b - A * 2 ^ g in
       let e : N * 2 ^ y ≡ (m - n) * 2 ^ 62 = sym (sub-scale b (A * 2 ^ g) (2 ^ y)) ∙ rw (high-is, m-is) (sub-scale m n (2 ^ 62)) in
       let some : 0 < N = omega arith in
-      let r = settled p N g y (m - n) some e (unseen p N g narrow some (omega (arith, high-even, b-even)) (λ h. let f : ⊥ = omega arith in absurd f)) in
-      subst (λ (i : ℕ). Rounds p i (y + g) (m - n)) (plain N z ∙ ap (λ (i : ℕ). b - i) one ∙ ap (λ (i : ℕ). i - A) (sym (plain b z))) r
+      subst (λ (i : ℕ). Rounds p i (y + g) (m - n)) (plain N z ∙ ap (λ (i : ℕ). b - i) one ∙ ap (λ (i : ℕ). i - A) (sym (plain b z)))
+      (settled p N g y (m - n) some e (unseen p N g narrow some (omega (arith, high-even, b-even)) (λ h. absurd (omega arith))))
     where
       no-gap : g ≡ 0
       no-gap = go (eqb g 0) (eqb-true g 0) (eqb-false g 0)
@@ -137,29 +143,37 @@ module _ (p A b g y n m : ℕ) (narrow : p ≤ 60) (A-top : 2 ^ 62 ≤ A) (b-sma
 
   -- the higher word is below the lower one only where there is no gap
   cut-above : A * 2 ^ g < b → A < oddCut b g
-  cut-above l = by-rest (A < oddCut b g) b g (λ q e. rw (e, odd-exact q g) (lt-of-mul-lt-mul-right (2 ^ g) (rw e at l))) (λ q r e some k.
-      let i : A * 2 ^ g < (q + 1) * 2 ^ g = omega arith in let j = lt-of-mul-lt-mul-right (2 ^ g) i in rw (e, odd-rest q r g some k) (omega (arith, A-even)))
+  cut-above l =
+      by-rest (A < oddCut b g) b g (λ q e. rw (e, odd-exact q g) (lt-of-mul-lt-mul-right (2 ^ g) (rw e at l)))
+      (λ q r e some k.
+      let i : A * 2 ^ g < (q + 1) * 2 ^ g = omega arith in
+      let j = lt-of-mul-lt-mul-right (2 ^ g) i in
+      rw (e, odd-rest q r g some k) (omega (arith, A-even)))
 
   by-cases : (same s t : Bool) → Agrees p (y + g) (byCases same (of s A) (of t (oddCut b g))) (byCases same (of s n) (of t m))
   by-cases false s t = record { sign = refl; count = sum }
   by-cases true s t = go (ltb b (A * 2 ^ g)) (ltb→lt b (A * 2 ^ g)) (nltb→le b (A * 2 ^ g))
     where
+      Goal : Type 0
+      Goal = Agrees p (y + g) (byCases true (of s A) (of t (oddCut b g))) (byCases true (of s n) (of t m))
+
       up : (i j : ℕ) → i < j → i * 2 ^ y < j * 2 ^ y
       up i j h = mul-lt-mul-of-pos-right h (pow-pos y)
 
-      over : (u : Bool) → (T u → A * 2 ^ g < b) → (T (not u) → b ≤ A * 2 ^ g) → A * 2 ^ g ≤ b → Agrees p (y + g) (byCases true (of s A) (of t (oddCut b g))) (byCases true (of s n) (of t m))
+      over : (u : Bool) → (T u → A * 2 ^ g < b) → (T (not u) → b ≤ A * 2 ^ g) → A * 2 ^ g ≤ b → Goal
       over true c d h =
           let l = c tt in
           let i : n < m = lt-of-mul-lt-mul-right (2 ^ 62) (rw (high-is, m-is) at (up (A * 2 ^ g) b l)) in
           let j = cut-above l in
-          rw (le-ltb (oddCut b g) A (omega arith), lt-ltb A (oddCut b g) j, le-ltb m n (omega arith), lt-ltb n m i) (record { sign = refl; count = swapped l })
+          rw (le-ltb (oddCut b g) A (omega arith), lt-ltb A (oddCut b g) j, le-ltb m n (omega arith), lt-ltb n m i)
+          (record { sign = refl; count = swapped l })
       over false c d h =
           let e : b ≡ A * 2 ^ g = omega (arith, d tt) in
           let i : oddCut b g ≡ A = ap (λ (i : ℕ). oddCut i g) e ∙ odd-exact A g in
           let j : m ≡ n = eq-of-mul-eq-mul-right (2 ^ 62) (pow-pos 62) m n (sym m-is ∙ ap (λ (i : ℕ). i * 2 ^ y) e ∙ high-is) in
           rw (i, j, le-ltb A A (omega arith), le-ltb n n (omega arith)) (record { sign = refl; count = nothing p (y + g) })
 
-      go : (u : Bool) → (T u → b < A * 2 ^ g) → (T (not u) → A * 2 ^ g ≤ b) → Agrees p (y + g) (byCases true (of s A) (of t (oddCut b g))) (byCases true (of s n) (of t m))
+      go : (u : Bool) → (T u → b < A * 2 ^ g) → (T (not u) → A * 2 ^ g ≤ b) → Goal
       go true c d =
           let l = c tt in
           let i : m < n = lt-of-mul-lt-mul-right (2 ^ 62) (rw (high-is, m-is) at (up b (A * 2 ^ g) l)) in

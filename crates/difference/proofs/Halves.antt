@@ -29,7 +29,8 @@ lead-room n some d =
     let k = size n - 62 in
     let e = size n - 1 in
     let whole : 2 ^ (k + 63) ∣ n * 2 ^ 63 = rw (pow-add 2 k 63) (mul-dvd-mul-right (2 ^ k) (digits-dvd 62 n d) (2 ^ 63)) in
-    let f : 2 ^ (2 + e) ∣ lead n * 2 ^ e = rw (lead-exact n some (digits-more 62 64 n (omega arith) d)) (dvd-trans (2 ^ (2 + e)) (pow-dvd (2 + e) (k + 63) (omega arith)) whole) in
+    let f : 2 ^ (2 + e) ∣ lead n * 2 ^ e =
+    rw (lead-exact n some (digits-more 62 64 n (omega arith) d)) (dvd-trans (2 ^ (2 + e)) (pow-dvd (2 + e) (k + 63) (omega arith)) whole) in
     mod-eq-zero-of-dvd 4 (dvd-of-mul-dvd-mul-right 4 (pow-pos e) (rw (pow-add 2 2 e) at f))
 
 module _ (f : Format) (ok : Sound f) where
@@ -65,25 +66,32 @@ module _ (f : Format) (ok : Sound f) where
       (ex : place ≡ placeIn (f .smallest) (x .exponent)) (ey : placeIn (f .smallest) (y .exponent) + gap ≡ place) where
     pub sum-small : x .significand / 2 + oddCut (y .significand / 2) gap < 2 ^ 64
     sum-small =
-        let b = odd-below (2 ^ 63) (y .significand / 2) gap refl (let m : 1 * 2 ^ 63 ≤ 2 ^ gap * 2 ^ 63 = mul-le-mul-right (2 ^ 63) (pow-pos gap) in omega (arith, value y sy .word)) in
-        omega (arith, value x sx .word)
+        let m : 1 * 2 ^ 63 ≤ 2 ^ gap * 2 ^ 63 = mul-le-mul-right (2 ^ 63) (pow-pos gap) in
+        omega (arith, value x sx .word, odd-below (2 ^ 63) (y .significand / 2) gap refl (omega (arith, value y sy .word)))
 
-    pub values-agree :
-        Agrees (f .precision) place
-        (exactDifference (record { negative = x .negative; count = x .significand / 2 }) (record { negative = y .negative; count = oddCut (y .significand / 2) gap }))
-        (exactDifference (valueIn (f .smallest) x) (valueIn (f .smallest) y))
+    -- the words that the code subtracts, and the values
+    abbrev words : Value
+    words =
+        exactDifference (record { negative = x .negative; count = x .significand / 2 })
+        (record { negative = y .negative; count = oddCut (y .significand / 2) gap })
+
+    abbrev exact : Value
+    exact = exactDifference (valueIn (f .smallest) x) (valueIn (f .smallest) y)
+
+    pub values-agree : Agrees (f .precision) place words exact
     values-agree =
         let py = placeIn (f .smallest) (y .exponent) in
-        subst (λ (i : ℕ). Agrees (f .precision) i (exactDifference (record { negative = x .negative; count = x .significand / 2 }) (record { negative = y .negative; count = oddCut (y .significand / 2) gap })) (exactDifference (valueIn (f .smallest) x) (valueIn (f .smallest) y))) ey
+        subst (λ (i : ℕ). Agrees (f .precision) i words exact) ey
         (words-agree (f .precision) (x .significand / 2) (y .significand / 2) gap py (valueIn (f .smallest) x .count) (valueIn (f .smallest) y .count) narrow
         (omega (arith, top x sx)) (omega (arith, value y sy .word)) (omega (arith, room x sx narrow)) (omega (arith, room y sy narrow))
         (half-is x sx narrow (py + gap) (ey ∙ ex)) (half-is y sy narrow py refl) (x .negative) (y .negative))
 
   -- x - y is -y - -x
-  pub opposite-difference : (x y : Unpacked)
-      → differenceValue f (valueIn (f .smallest) (oppositeOf y)) (valueIn (f .smallest) (oppositeOf x)) ≡ differenceValue f (valueIn (f .smallest) x) (valueIn (f .smallest) y)
+  pub opposite-difference : (x y : Unpacked) → (let s = f .smallest in
+      differenceValue f (valueIn s (oppositeOf y)) (valueIn s (oppositeOf x)) ≡ differenceValue f (valueIn s x) (valueIn s y))
   opposite-difference x y =
       let s = f .smallest in
       value-is f (valueIn s (oppositeOf y)) (valueIn s (oppositeOf x))
-      ∙ ap (λ (v : Value). limited f (v .negative) (roundedTo (f .precision) (v .count))) (difference-swap (x .negative) (y .negative) (valueIn s x .count) (valueIn s y .count))
+      ∙ ap (λ (v : Value). limited f (v .negative) (roundedTo (f .precision) (v .count)))
+      (difference-swap (x .negative) (y .negative) (valueIn s x .count) (valueIn s y .count))
       ∙ sym (value-is f (valueIn s x) (valueIn s y))
