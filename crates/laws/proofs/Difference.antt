@@ -33,7 +33,8 @@ pub less-swap : (s : Bool) (n m : ℕ) → less (not s) m n ≡ less s n m
 less-swap s n m = go s (ltb m n) (ltb n m) refl refl
   where
     go : (s a b : Bool) → ltb m n ≡ a → ltb n m ≡ b
-        → _≡_ {A = Value} (cond b (of (not s) (m - n)) (cond a (of (not (not s)) (n - m)) (of false 0))) (cond a (of s (n - m)) (cond b (of (not s) (m - n)) (of false 0)))
+        → _≡_ {A = Value} (cond b (of (not s) (m - n)) (cond a (of (not (not s)) (n - m)) (of false 0)))
+        (cond a (of s (n - m)) (cond b (of (not s) (m - n)) (of false 0)))
     go s true true e f = clash (omega (arith, ltb-true m n e, ltb-true n m f))
     go true true false e f = refl
     go false true false e f = refl
@@ -148,7 +149,10 @@ module _ (f : Format) (r : Regular f) where
       value-is f x y ∙ ap (λ (v : Value). limited f (v .negative) (roundedTo (f .precision) (v .count))) e ∙ limited-held (d .negative) (d .count) h
 
   value-holds : (x y : Value) → Holds f (differenceValue f x y)
-  value-holds x y = let d = exactDifference x y in rw (value-is f x y) (limited-holds (d .negative) (roundedTo (f .precision) (d .count)) (rounded-digits (f .precision) (d .count) (omega arith)))
+  value-holds x y =
+      let d = exactDifference x y in
+      rw (value-is f x y)
+      (limited-holds (d .negative) (roundedTo (f .precision) (d .count)) (rounded-digits (f .precision) (d .count) (omega arith)))
 
   either-holds : (t s : Bool) → Holds f (cond {A = Class} t nan (infinite s))
   either-holds true s = tt

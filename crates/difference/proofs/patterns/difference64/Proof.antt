@@ -17,18 +17,21 @@ shape-requires : tie.Need-shape-requires
 shape-requires c κs = search needs
 
 subtract-operands-requires : tie.Need-subtract-operands-requires
-subtract-operands-requires c κs = patterns-stand binary64 sound64 _ (c .shape .ensures) _ _ _ _ (c .before .before .of-pattern .ensures) (c .before .of-pattern2 .ensures) (omega arith)
+subtract-operands-requires c κs =
+    patterns-stand binary64 sound64 _ (c .shape .ensures) _ _ _ _ (c .before .before .of-pattern .ensures) (c .before .of-pattern2 .ensures)
+    (omega arith)
 
 pack-requires : tie.Need-pack-requires
 pack-requires c κs =
     let p = c .before in
-    difference-stands binary64 sound64 _ (p .shape .ensures) _ _ _ _ (p .before .before .of-pattern .ensures) (p .before .of-pattern2 .ensures) _ (c .subtract-operands .ensures)
+    difference-stands binary64 sound64 _ (p .shape .ensures) _ _ _ _ (p .before .before .of-pattern .ensures) (p .before .of-pattern2 .ensures)
+    _ (c .subtract-operands .ensures)
 
 returns : tie.Need-returns
 returns c =
-    let q = c .before in
-    let p = q .before in
-    difference-low binary64 sound64 _ (p .shape .ensures) _ _ _ _ (p .before .before .of-pattern .ensures) (p .before .of-pattern2 .ensures) _ (q .subtract-operands .ensures) (omega arith) _ (c .pack .ensures)
+    let p = c .before .before in
+    difference-low binary64 sound64 _ (p .shape .ensures) _ _ _ _ (p .before .before .of-pattern .ensures) (p .before .of-pattern2 .ensures)
+    _ (c .before .subtract-operands .ensures) (omega arith) _ (c .pack .ensures)
 
 pub difference64-spec : {M : Type 1} → statement M
 difference64-spec = tie.close (tie.spec of-pattern-requires of-pattern-requires-2 shape-requires subtract-operands-requires pack-requires returns)

@@ -30,7 +30,8 @@ returns c =
     let s = c .before .before .before .before in
     let told = c .before .before .y2 .given in
     rw (told .1)
-    (ap (λ (b : Bool). Zero (cond b false (s .args .negative))) (sym (c .if1 .taken)) ∙ zero-zero (formatOf (s .args .shape)) (s .pre .0) (s .args .negative) (told .0 .0))
+    (ap (λ (b : Bool). Zero (cond b false (s .args .negative))) (sym (c .if1 .taken))
+    ∙ zero-zero (formatOf (s .args .shape)) (s .pre .0) (s .args .negative) (told .0 .0))
 
 enum-known-y-3 : tie.Need-enum-known-y-3
 enum-known-y-3 c = search needs
@@ -56,7 +57,8 @@ returns-5 c =
     let s = c .before .before .before .before in
     let told = c .before .before .y2 .given in
     rw (told .1)
-    (ap (λ (b : Bool). Zero (cond b false (s .args .negative))) (sym (c .if1 .left)) ∙ zero-zero (formatOf (s .args .shape)) (s .pre .0) (s .args .negative) (told .0 .0))
+    (ap (λ (b : Bool). Zero (cond b false (s .args .negative))) (sym (c .if1 .left))
+    ∙ zero-zero (formatOf (s .args .shape)) (s .pre .0) (s .args .negative) (told .0 .0))
 
 returns-6 : tie.Need-returns-6
 unfolding operandOf classIn differenceClass

@@ -24,17 +24,23 @@ module _ (s : tie.Start) where
   abbrev f : Format
   f = formatOf (s .args .shape)
 
-  -- the exact difference of the two values, and that of the words that the code takes
+  -- the exact difference of the two values, and that of the words that the code takes, the lower one as it is cut
   abbrev exact : Value
   exact = exactDifference (valueIn (f .smallest) (s .args .x)) (valueIn (f .smallest) (s .args .y))
 
-  abbrev words : Value
-  words =
+  abbrev wordsWith : ℕ → Value
+  wordsWith low =
       exactDifference (record { negative = s .args .x .negative; count = s .args .x .significand / 2 })
-      (record { negative = s .args .y .negative; count = oddCut (s .args .y .significand / 2) (s .args .gap) })
+      (record { negative = s .args .y .negative; count = low })
+
+  abbrev words : Value
+  words = wordsWith (oddCut (s .args .y .significand / 2) (s .args .gap))
 
   agrees : Agrees (f .precision) (s .args .place) words exact
   agrees = values-agree f (s .pre .0) (s .pre .1) (s .args .x) (s .args .y) (s .pre .2) (s .pre .3) (s .args .place) (s .args .gap) (s .pre .4) (s .pre .5)
+
+  small : s .args .x .significand / 2 + oddCut (s .args .y .significand / 2) (s .args .gap) < 2 ^ 64
+  small = sum-small f (s .pre .0) (s .pre .1) (s .args .x) (s .args .y) (s .pre .2) (s .pre .3) (s .args .place) (s .args .gap) (s .pre .4) (s .pre .5)
 
   place-small : s .args .place < 2 ^ 17
   place-small = omega (arith, s .pre .4, placed f (s .pre .0) (s .args .x) (s .pre .2) .range, s .pre .0 .narrow, s .pre .0 .short)
@@ -45,18 +51,16 @@ odd-cut-requires c κs = search needs
 subtract-requires : tie.Need-subtract-requires
 subtract-requires c κs =
     let s = c .before .before .before in
-    rw (c .before .odd-cut .ensures) (sum-small (f s) (s .pre .0) (s .pre .1) (s .args .x) (s .args .y) (s .pre .2) (s .pre .3) (s .args .place) (s .args .gap) (s .pre .4) (s .pre .5))
+    rw (c .before .odd-cut .ensures) (small s)
 
 sum-is : (c : tie.After-subtract) → c .subtract .result ≡ signedOf (words (c .before .before .before .before))
-sum-is c =
-    let a = c .before .before .before .before .args in
-    c .subtract .ensures
-    ∙ ap (λ (n : ℕ). signedOf (exactDifference (record { negative = a .x .negative; count = a .x .significand / 2 }) (record { negative = a .y .negative; count = n }))) (c .before .before .odd-cut .ensures)
+sum-is c = let s = c .before .before .before .before in c .subtract .ensures ∙ ap (λ (n : ℕ). signedOf (wordsWith s n)) (c .before .before .odd-cut .ensures)
 
 rounded-value-requires : tie.Need-rounded-value-requires
 rounded-value-requires c κs =
     let s = c .before .before .before .before in
-    (s .pre .0, s .pre .1, subst (λ (w : SignedWord). 0 < w .word → 63 ≤ size (w .word) + s .args .place) (sym (sum-is c)) (agrees s .count .sized), place-small s)
+    let sized = subst (λ (w : SignedWord). 0 < w .word → 63 ≤ size (w .word) + s .args .place) (sym (sum-is c)) (agrees s .count .sized) in
+    (s .pre .0, s .pre .1, sized, place-small s)
 
 returns : tie.Need-returns
 returns c =

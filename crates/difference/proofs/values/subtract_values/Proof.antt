@@ -38,12 +38,14 @@ module _ (s : tie.Start) where
 place-of-requires : tie.Need-place-of-requires
 place-of-requires c κs =
     let s = c .before .before in
-    rw (smallest-back s, exponent-back s (s .args .x) (s .pre .2)) (value s (s .args .x) (s .pre .2) .above, place-small s (s .args .x) (s .pre .2))
+    let u = s .args .x in
+    rw (smallest-back s, exponent-back s u (s .pre .2)) (value s u (s .pre .2) .above, place-small s u (s .pre .2))
 
 place-of-requires-2 : tie.Need-place-of-requires-2
 place-of-requires-2 c κs =
     let s = c .before .before .before .before .before in
-    rw (smallest-back s, exponent-back s (s .args .y) (s .pre .3)) (value s (s .args .y) (s .pre .3) .above, place-small s (s .args .y) (s .pre .3))
+    let u = s .args .y in
+    rw (smallest-back s, exponent-back s u (s .pre .3)) (value s u (s .pre .3) .above, place-small s u (s .pre .3))
 
 -- the places
 module _ (p : tie.After-place-of2) where
@@ -78,8 +80,14 @@ subtract-placed-requires-2 : tie.Need-subtract-placed-requires-2
 subtract-placed-requires-2 c κs =
     let p = c .before .before .before in
     let s = start p in
-    rw (c .before .opposite .ensures, c .opposite2 .ensures)
-    (s .pre .0, s .pre .1, opposite-stands (f s) (s .pre .0) (s .args .y) (s .pre .3), opposite-stands (f s) (s .pre .0) (s .args .x) (s .pre .2), py-is p, rw (← px-is p) (omega (arith, c .before .before .if1 .left)))
+    rw (c .before .opposite .ensures, c .opposite2 .ensures) (
+      s .pre .0,
+      s .pre .1,
+      opposite-stands (f s) (s .pre .0) (s .args .y) (s .pre .3),
+      opposite-stands (f s) (s .pre .0) (s .args .x) (s .pre .2),
+      py-is p,
+      rw (← px-is p) (omega (arith, c .before .before .if1 .left)),
+    )
 
 returns-2 : tie.Need-returns-2
 returns-2 c =

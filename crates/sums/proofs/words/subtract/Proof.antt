@@ -18,8 +18,11 @@ module _ (s : tie.Start) where
   abbrev y : Value
   y = record { negative = s .args .other; count = s .args .y }
 
-  by-test : (differ : Bool) → not (Bool·beq (s .args .negative) (s .args .other)) ≡ differ → signedOf (byCases (not differ) x y) ≡ signedOf (exactDifference x y)
-  by-test differ e = ap (λ (t : Bool). signedOf (byCases t x y)) (sym (ap not e) ∙ twice (Bool·beq (s .args .negative) (s .args .other))) ∙ ap signedOf (sym (difference-cases x y))
+  abbrev same : Bool
+  same = Bool·beq (s .args .negative) (s .args .other)
+
+  by-test : (differ : Bool) → not same ≡ differ → signedOf (byCases (not differ) x y) ≡ signedOf (exactDifference x y)
+  by-test differ e = ap (λ (t : Bool). signedOf (byCases t x y)) (sym (ap not e) ∙ twice same) ∙ ap signedOf (sym (difference-cases x y))
     where
       twice : (t : Bool) → not (not t) ≡ t
       twice true = refl
