@@ -25,8 +25,9 @@ pub fn opposite(value: Unpacked) -> Unpacked
     }
 }
 
-// x − y, where x is at the place and y lies `gap` places below. Halves leave room for the sum, and the lower one's last digit stands
-// for all that is cut off of it: with two digits below the precision, rounding sees no more.
+// x − y, where x is at the place and y lies `gap` places below. Halves leave room for the sum, and the last digit of the lower one
+// stands for all that is cut off of it. What is left across such a gap has 62 digits or more, two below a precision of 60, and rounding
+// looks at no more.
 fn subtract_placed(shape: Shape, x: Unpacked, y: Unpacked, place: u32, gap: u32) -> Operand
     requires { ⌜ Sound (formatOf shape) × (shape .precision ≤ 60) × StandsValue (formatOf shape) (Finite x) × StandsValue (formatOf shape) (Finite y) × (place ≡ placeIn (shape .smallest) (x .exponent)) × (placeIn (shape .smallest) (y .exponent) + gap ≡ place) ⌝ }
     ensures { λ r. ⌜ r ≡ operandOf (shape .smallest) (differenceValue (formatOf shape) (valueIn (shape .smallest) x) (valueIn (shape .smallest) y)) ⌝ }

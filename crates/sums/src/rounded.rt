@@ -37,7 +37,7 @@ fn limit(value: Unpacked, bias: u32) -> Operand
 // The value word × 2^(place − 62), counted from the smallest place. Its leading one is brought to bit 63, so that what lies below the
 // precision is always the same number of places.
 pub fn rounded_value(shape: Shape, negative: bool, word: u64, place: u32) -> Operand
-    requires { ⌜ Sound (formatOf shape) × (shape .precision ≤ 60) × (0 < word → 63 ≤ size word + place) × (place < 2 ^ 17) ⌝ }
+    requires { ⌜ Sound (formatOf shape) × (0 < word → 63 ≤ size word + place) × (place < 2 ^ 17) ⌝ }
     ensures { λ r. ⌜ ((c : ℕ) → roundedTo (shape .precision) word * 2 ^ place ≡ c * 2 ^ 62 → r ≡ operandOf (shape .smallest) (limited (formatOf shape) negative c)) ⌝ }
 {
     if word == 0 {

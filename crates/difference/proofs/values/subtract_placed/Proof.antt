@@ -60,7 +60,7 @@ rounded-value-requires : tie.Need-rounded-value-requires
 rounded-value-requires c κs =
     let s = c .before .before .before .before in
     let sized = subst (λ (w : SignedWord). 0 < w .word → 63 ≤ size (w .word) + s .args .place) (sym (sum-is c)) (agrees s .count .sized) in
-    (s .pre .0, s .pre .1, sized, place-small s)
+    (s .pre .0, sized, place-small s)
 
 returns : tie.Need-returns
 returns c =

@@ -45,8 +45,8 @@ module _ (c : tie.Else1) where
   shifted : w * 2 ^ leadingZeros 64 w % 2 ^ 64 ≡ w * 2 ^ leadingZeros 64 w
   shifted = mod-eq-of-lt (shifted-small 64 w some word)
 
-  fits : leadingZeros 64 w + f .precision ≤ c .before .args .place + 61
-  fits = omega (arith, size-leading 64 w word, c .before .pre .2 some, c .before .pre .1)
+  fits : leadingZeros 64 w + f .precision ≤ c .before .args .place + 65
+  fits = omega (arith, size-leading 64 w word, c .before .pre .1 some, c .before .pre .0 .narrow)
 
   smallest-back : toZ w32 (ofZ w32 (f .smallest)) ≡ f .smallest
   smallest-back = small-back (f .smallest) (omega (arith, smallest-small f (c .before .pre .0)))
@@ -83,7 +83,7 @@ module _ (q : tie.After-normalise) where
   else = exponent .before .before
 
   places-small : (t : ℕ) → t ≤ else .before .args .place + 100 → t < 2 ^ 18
-  places-small t h = omega (arith, else .before .pre .3)
+  places-small t h = omega (arith, else .before .pre .2)
 
   near : mag (exponent .exponent-above .result) < 2 ^ 20
   near = exponent-small else _ _ (exponent .exponent-above .ensures) (places-small _ (omega arith))
@@ -95,7 +95,7 @@ module _ (q : tie.After-normalise) where
       → limitOf (f else .bias) (q .normalise .result) ≡ operandOf (f else .smallest) (limited (f else) (else .before .args .negative) n)
   limited-as =
       limited-by else _ _ (exponent .exponent-above .ensures) (places-small _ (omega arith)) _ _ _ (q .before .round-places .ensures) normal-is
-      (omega (arith, else .before .pre .1)) (omega (arith, fits else))
+      (omega (arith, else .before .pre .0 .narrow)) (omega (arith, fits else))
 
 returns : tie.Need-returns
 returns c n is =
@@ -107,7 +107,7 @@ add-exponent-above : tie.Need-add-exponent-above
 add-exponent-above c = search needs
 
 add-exponent-above-2 : tie.Need-add-exponent-above-2
-add-exponent-above-2 c = record { fits = omega (arith, fits c, c .before .pre .3) }
+add-exponent-above-2 c = record { fits = omega (arith, fits c, c .before .pre .2) }
 
 sub-exponent-above : tie.Need-sub-exponent-above
 sub-exponent-above c = omega (arith, fits c)
@@ -115,7 +115,7 @@ sub-exponent-above c = omega (arith, fits c)
 exponent-above-requires : tie.Need-exponent-above-requires
 exponent-above-requires c κs =
     let e = c .before in
-    rw (smallest-back e) (omega (arith, smallest-small (f e) (e .before .pre .0)), omega (arith, e .before .pre .3))
+    rw (smallest-back e) (omega (arith, smallest-small (f e) (e .before .pre .0)), omega (arith, e .before .pre .2))
 
 cast-round-places : tie.Need-cast-round-places
 cast-round-places c = record { fits = omega (arith, under (c .before .before)) }
@@ -132,7 +132,7 @@ round-places-requires c κs = search needs
 normalise-requires : tie.Need-normalise-requires
 normalise-requires c κs =
     let e = c .before .before .before in
-    let l = e .before .pre .3 in
+    let l = e .before .pre .2 in
     rw (exponent-back e _ _ (c .before .exponent-above .ensures) (omega arith)) (exponent-small e _ _ (c .before .exponent-above .ensures) (omega arith))
 
 enum-known-operand : tie.Need-enum-known-operand
