@@ -93,12 +93,12 @@ up-sticky Q R r d D some l h = go (leb (2 * D) R) (leb→le (2 * D) R) (nleb→l
         let m : (R + 1) * d ≤ 2 * D * d = mul-le-mul-right d u in
         le-ltb (4 * D * d) ((R * d + r) * 2 + Q % 2) (omega arith) ∙ sym (le-ltb (4 * D) ((R / 2 * 2 + 1) * 2 + Q % 2) (omega arith))
 
--- the quotient of a cut, by one test
+-- the quotient of a rounding, by one test
 round-quotient : (n d k Q R : ℕ) → 2 ^ k ≡ d → R < d → n ≡ Q * d + R → round n k .quotient ≡ cond (ltb d (R * 2 + Q % 2)) (Q + 1) Q
 unfolding round
 round-quotient n d k Q R p l e = rw (p, unique-div n Q R d l e, unique-mod n Q R d l e, rounds-up-once Q R d)
 
--- "cutting with a sticky bit": the odd cut by k places, then the cut by j, is one cut, where j is two or more
+-- the odd cut by k places, then rounding by j, is rounding by both at once, where j is two or more
 pub round-sticky : (n k j : ℕ) → 2 ≤ j → round n (j + k) .quotient ≡ round (oddCut n k) j .quotient
 round-sticky n k j h = by-rest (round n (j + k) .quotient ≡ round (oddCut n k) j .quotient) n k whole rest
   where
