@@ -1,7 +1,7 @@
 // Points as floats, and the fold of one: what is divided, then the remainder of patterns.
 use definitions::Kind;
 use definitions::RemainderAnswer;
-use difference::difference64;
+use difference::patterns::difference64;
 use floats::float_of;
 use floats::pattern_of;
 use formats::binary::Binary64;

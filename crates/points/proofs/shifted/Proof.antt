@@ -8,7 +8,7 @@ use Rattle.points.proofs.shifted.Statement.{statement}
 use Rattle.points.proofs.shifted.Tie as tie
 use Rattle.points.proofs.shifted.Reads as reads
 use Rattle.points.proofs.shifted.Lts as lts
-use Rattle.difference.proofs.difference64.Reads as difference64-reads
+use Rattle.difference.proofs.patterns.difference64.Reads as difference64-reads
 use Rattle.floats.proofs.pattern_of.Reads as pattern-of-reads
 
 -- src/lib.rt:43:38
