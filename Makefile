@@ -33,7 +33,7 @@ placed = $(out)/prefix
 pc = zukemoriha.pc.in
 
 exports = export_remainder export_steps export_scaling export_fold
-programs = host untouched chains fold half fprem libm ldexp
+programs = host untouched chains fold half fprem libm ldexp stems
 version = $(shell sed -n 's/^\#define ZK_VERSION "\(.*\)"/\1/p' include/zukemoriha.h)
 warnings = -Wall -Wextra -pedantic
 cflags = -std=c99 -O2 $(warnings) -Iinclude

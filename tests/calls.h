@@ -208,6 +208,48 @@ static inline struct reply call_split(int f, struct pattern x) {
     return r;
 }
 
+/* What opening a stem file gave. What it did not promise to write is 0 here. */
+struct opened {
+    uint8_t number;
+    uint32_t kind;
+    uint64_t period, origin;
+    size_t start, count;
+    int touched; /* an output was written that may not be */
+};
+
+static inline struct opened call_open(const uint8_t *file, size_t length) {
+    struct room kind, period, origin, start, count;
+    void *k = lend(&kind), *p = lend(&period), *o = lend(&origin), *s = lend(&start), *c = lend(&count);
+    struct opened r;
+    int answered;
+    memset(&r, 0, sizeof r);
+    r.number = zk_stem_open(file, length, (uint32_t *)k, (uint64_t *)p, (uint64_t *)o, (size_t *)s, (size_t *)c);
+    answered = zk_is_answer(r.number);
+    if (answered) {
+        memcpy(&r.kind, k, sizeof r.kind);
+        memcpy(&r.period, p, sizeof r.period);
+        memcpy(&r.origin, o, sizeof r.origin);
+        memcpy(&r.start, s, sizeof r.start);
+        memcpy(&r.count, c, sizeof r.count);
+    }
+    r.touched = !kept(&kind, answered ? 4 : 0) || !kept(&period, answered ? 8 : 0) || !kept(&origin, answered ? 8 : 0) ||
+                !kept(&start, answered ? sizeof r.start : 0) || !kept(&count, answered ? sizeof r.count : 0);
+    return r;
+}
+
+/* The reading is lent with its value: on a refusal it still has to be there. */
+static inline struct reply call_stem_fold(uint32_t kind, uint64_t period, uint64_t origin, uint64_t reading) {
+    struct room room;
+    struct reply r = {0, {0, 0}, 0, 0, 0, 0, 0};
+    void *lent = lend(&room);
+    memcpy(lent, &reading, sizeof reading);
+    r.number = zk_stem_fold(kind, period, origin, (uint64_t *)lent);
+    if (zk_is_answer(r.number))
+        memcpy(&r.value.bits, lent, sizeof r.value.bits);
+    r.touched = !kept(&room, 8) || (!zk_is_answer(r.number) && memcmp(lent, &reading, sizeof reading) != 0);
+    return r;
+}
+
 /* Whether a loop over `all` cases goes on. On a terminal it shows how far it is. */
 static inline int going(uint64_t done, uint64_t all) {
     int shown = (done % (all / 100 + 1) == 0 || done == all) && isatty(STDERR_FILENO);
