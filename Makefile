@@ -33,12 +33,13 @@ placed = $(out)/prefix
 pc = zukemoriha.pc.in
 
 exports = export_remainder export_steps export_scaling export_fold
-programs = host untouched chains fold half fprem libm ldexp stems
+programs = host untouched chains fold half fprem libm ldexp stems modes
 version = $(shell sed -n 's/^\#define ZK_VERSION "\(.*\)"/\1/p' include/zukemoriha.h)
 warnings = -Wall -Wextra -pedantic
 cflags = -std=c99 -O2 $(warnings) -Iinclude
 # what is compared or measured is the C library's function, not what the compiler makes of its name
 unbuilt = $(foreach n,fmod remainder remquo ldexp frexp,-fno-builtin-$(n) -fno-builtin-$(n)f -fno-builtin-$(n)l)
+sanitize = -g -fsanitize=address,undefined -fno-sanitize-recover=all
 parallel = $(MAKE) --no-print-directory -j$$(nproc) --output-sync=target
 headers = tests/calls.h tests/operands.h include/zukemoriha.h
 exported = sed -n 's/^[a-z0-9_]* \(zk_[a-z0-9_]*\)(.*/\1/p' $(header)
@@ -71,7 +72,7 @@ check: tools ## what has changed is proved, then the tests (minutes)
 	$(parallel) tests
 	@echo 'every crate proved, every test passed'
 
-tests: header documents examples install-check rust $(addprefix test-,$(programs)) controls altered ## the tests alone, on the archive of what is proved
+tests: header documents examples install-check rust $(addprefix test-,$(programs)) test-sanitized controls altered ## the tests alone, on the archive of what is proved
 
 check-long: peers long-half $(addprefix long-,chains fprem libm ldexp libm-musl ldexp-musl mpfr) ## ten million cases a format, musl, MPFR, all pairs of binary16 (an hour; cases=N seed=N for others)
 
@@ -142,7 +143,7 @@ always:
 
 # ---- tests from outside
 
-.PHONY: header documents examples install-check rust $(addprefix test-,$(programs))
+.PHONY: header documents examples install-check rust test-sanitized $(addprefix test-,$(programs))
 
 # it compiles, and names what the archive exports, no more and no less
 header: $(linked)
@@ -192,6 +193,16 @@ $(addprefix $(out)/,$(programs)): $(out)/%: $(out)/%.o $(linked)
 $(addprefix test-,$(programs)): test-%: $(out)/%
 	$<
 
+# stems under the compiler's sanitizers, which Debian's gcc brings: a file is a block of its length, and its points are read as they are told
+$(out)/sanitized.o: tests/stems.c $(headers) | $(out)
+	$(CC) $(cflags) $(unbuilt) -Itests $(sanitize) -c $< -o $@
+
+$(out)/sanitized: $(out)/sanitized.o $(linked)
+	$(CC) $(sanitize) $< $(linked) -lm -o $@
+
+test-sanitized: $(out)/sanitized
+	$< 50000
+
 # ---- the long part
 
 .PHONY: long-half $(addprefix long-,chains fprem libm ldexp libm-musl ldexp-musl mpfr)
@@ -228,13 +239,16 @@ $(faults)/lib/libzukemoriha.a: tests/faults.c include/zukemoriha.h $(linked)
 $(addprefix $(faults)/,$(programs)): $(faults)/%: $(out)/%.o $(faults)/lib/libzukemoriha.a
 	$(link) $< $(faults)/lib/libzukemoriha.a -lm -o $@
 
+$(faults)/sanitized: $(out)/sanitized.o $(faults)/lib/libzukemoriha.a
+	$(CC) $(sanitize) $< $(faults)/lib/libzukemoriha.a -lm -o $@
+
 # libm on a C library whose remainder is its fmod
 $(faults)/disputed: $(out)/libm.o $(faults)/lib/libzukemoriha.a
 	objcopy --redefine-sym remainder=fmod $< $@.o
 	$(CC) $@.o $(faults)/lib/libzukemoriha.a -lm -o $@
 
-controls: $(addprefix $(faults)/,$(programs) disputed)
-	sh tests/controls.sh $(faults) $(programs)
+controls: $(addprefix $(faults)/,$(programs) sanitized disputed)
+	sh tests/controls.sh $(faults) $(programs) sanitized
 
 # the tests by diff on altered copies, once they have passed on what there is
 altered: header documents examples install-check

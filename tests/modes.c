@@ -1,0 +1,255 @@
+/*
+ * Every exported function under other floating-point environments: each rounding mode, denormals flushed and taken for zero, other
+ * precisions and roundings of the x87 unit, then all of them once more with exceptions unmasked. The answers are those that the default
+ * environment gave before, nothing traps, and the environment is left as it was. The denormal-operand exception stays masked: the header
+ * says that zk_stem_open and zk_stem_fold may set it off. x86-64 only.
+ *
+ *   modes [QUESTIONS [SEED]]
+ */
+#define _DEFAULT_SOURCE
+#include "operands.h"
+
+#if !defined(__x86_64__)
+
+int main(void) {
+    printf("no MXCSR here: nothing compared\n");
+    return 0;
+}
+
+#else
+
+#include <setjmp.h>
+#include <signal.h>
+#include <xmmintrin.h>
+
+/* ---- questions and answers */
+
+enum { REM, STEP, RUN, SCALE, SPLIT, FOLD, OPEN, STEM_FOLD, OPERATIONS };
+
+static const char *const operation_names[OPERATIONS] = {"remainder", "step", "run", "scaling", "split", "list", "stem file", "stem point"};
+
+enum { PLACES_OF_LIST = 4, FILE_LENGTH = ZK_STEM_HEADER + ZK_STEM_POINT };
+
+struct question {
+    int operation, format;
+    struct pattern x, y;
+    uint32_t kind, size, budget;
+    int32_t power;
+    size_t length; /* of the block */
+    uint64_t list[PLACES_OF_LIST]; /* dividends; or period, origin and reading */
+    uint8_t file[FILE_LENGTH];
+};
+
+/* All that a call gave, with zeros where it gave nothing, so that two are compared by their bytes. */
+struct answer {
+    uint64_t number, touched, values[8];
+};
+
+static void answer_of_reply(struct answer *a, struct reply r) {
+    const uint64_t values[8] = {r.value.bits, r.value.word, r.quotient, r.steps, (uint64_t)r.says, (uint64_t)(int64_t)r.exponent, 0, 0};
+    a->number = r.number;
+    a->touched = (uint64_t)r.touched;
+    memcpy(a->values, values, sizeof values);
+}
+
+static void ask_list(const struct question *q, struct answer *a) {
+    uint8_t bytes[PLACES_OF_LIST] = {0};
+    size_t marked = 0;
+    a->number = zk_fold64(q->list, PLACES_OF_LIST, a->values, PLACES_OF_LIST, bytes, q->length / 4, q->y.bits, q->kind, &marked);
+    memcpy(a->values + PLACES_OF_LIST, bytes, sizeof bytes);
+    a->values[PLACES_OF_LIST + 1] = marked;
+}
+
+static void ask_file(const struct question *q, struct answer *a) {
+    struct opened o = call_open(q->file, FILE_LENGTH);
+    const uint64_t values[8] = {o.kind, o.period, o.origin, o.start, o.count, 0, 0, 0};
+    a->number = o.number;
+    a->touched = (uint64_t)o.touched;
+    memcpy(a->values, values, sizeof values);
+}
+
+static void ask(const struct question *q, struct answer *a) {
+    memset(a, 0, sizeof *a);
+    switch (q->operation) {
+    case REM: answer_of_reply(a, call_rem(q->format, q->x, q->y, q->kind)); break;
+    case STEP: answer_of_reply(a, call_step(q->x, q->y, q->size, q->kind, q->length)); break;
+    case RUN: answer_of_reply(a, call_run(q->x, q->y, q->size, q->kind, q->budget, q->length)); break;
+    case SCALE: answer_of_reply(a, call_scale(q->format, q->x, q->power)); break;
+    case SPLIT: answer_of_reply(a, call_split(q->format, q->x)); break;
+    case FOLD: ask_list(q, a); break;
+    case OPEN: ask_file(q, a); break;
+    default: answer_of_reply(a, call_stem_fold(q->kind, q->list[0], q->list[1], q->list[2]));
+    }
+}
+
+static void put(uint8_t *bytes, uint64_t number) {
+    int i;
+    for (i = 0; i < 8; i++)
+        bytes[i] = (uint8_t)(number >> 8 * i);
+}
+
+/* Denormals one time in four: what is flushed or taken for zero is seen on them alone. */
+static uint64_t any_binary64(uint64_t *state) {
+    switch (below(state, 8)) {
+    case 0:
+    case 1: return draw(state) >> between(state, 12, 63) | draw(state) << 63;
+    case 2: return any_special(BINARY64, state).bits;
+    default: return any_pair(BINARY64, state).x.bits;
+    }
+}
+
+/* Period, origin and reading of a file or a point. Half of the readings are near the origin: their difference may be denormal. */
+static void fill_gauge(struct question *q, uint64_t *state) {
+    uint64_t sign = UINT64_C(1) << 63;
+    q->kind = (uint32_t)below(state, 2);
+    q->list[0] = any_binary64(state) & (below(state, 8) ? ~sign : ~UINT64_C(0));
+    q->list[1] = q->kind == ZK_TURN && below(state, 8) ? 0 : any_binary64(state);
+    q->list[2] = below(state, 2) ? any_binary64(state) : q->list[1] + (uint64_t)between(state, -9, 9);
+    memcpy(q->file, "STM\1", 5);
+    q->file[5] = (uint8_t)q->kind;
+    q->file[6] = 1;
+    put(q->file + 10, q->list[0]);
+    put(q->file + 18, q->list[1]);
+    put(q->file + 26, q->list[2]);
+    if (below(state, 4) == 0)
+        q->file[below(state, 10)] ^= (uint8_t)(1 << below(state, 8));
+}
+
+static struct question any_question(int operation, uint64_t *state) {
+    struct question q;
+    struct pair p;
+    int i;
+    memset(&q, 0, sizeof q);
+    q.operation = operation;
+    q.format = operation == STEP || operation == RUN ? X87 : operation == FOLD ? BINARY64 : below(state, FORMATS);
+    p = any_pair(q.format, state);
+    q.x = p.x;
+    q.y = p.y;
+    q.kind = (uint32_t)below(state, 2);
+    q.size = (uint32_t)between(state, 31, 64);
+    q.budget = (uint32_t)below(state, 20);
+    q.length = below(state, 32) ? ZK_BLOCK_LENGTH : ZK_BLOCK_LENGTH - 1;
+    q.power = below(state, 2) ? between(state, -80, 80) : between(state, -2 * formats[q.format].bias, 2 * formats[q.format].bias);
+    for (i = 0; i < PLACES_OF_LIST; i++)
+        q.list[i] = any_binary64(state);
+    if (operation == OPEN || operation == STEM_FOLD)
+        fill_gauge(&q, state);
+    return q;
+}
+
+/* ---- environments */
+
+struct environment {
+    unsigned mxcsr;
+    uint16_t control;
+};
+
+enum { ROUNDINGS = 4, FLUSHINGS = 4, PRECISIONS = 3, ENVIRONMENTS = 48 };
+
+/* The x87 unit's masks are bits 0 to 5 of its control word, and those of MXCSR bits 7 to 12; the second of each is the denormal operand's. */
+enum { ALL_MASKED = 0x3F, UNMASKED = 0x02 };
+
+/* Every rounding, the same in both units, by every flushing, by every precision of the x87 unit. */
+static struct environment environment_of(unsigned i, unsigned masks) {
+    static const unsigned flushings[FLUSHINGS] = {0, 0x8000, 0x0040, 0x8040}, precisions[PRECISIONS] = {0x0300, 0x0200, 0};
+    struct environment e;
+    e.mxcsr = masks << 7 | i % ROUNDINGS << 13 | flushings[i / ROUNDINGS % FLUSHINGS];
+    e.control = (uint16_t)(masks | 0x40 | i % ROUNDINGS << 10 | precisions[i / ROUNDINGS % PRECISIONS]);
+    return e;
+}
+
+/* Flags that a test before has raised would trap at once if they were left. */
+static void set(struct environment e) {
+    __asm__ volatile("fnclex\n\tfldcw %0" : : "m"(e.control));
+    _mm_setcsr(e.mxcsr);
+}
+
+/* Without the flags that say what has happened, which a call may raise. */
+static struct environment present(void) {
+    struct environment e;
+    __asm__ volatile("fnstcw %0" : "=m"(e.control));
+    e.mxcsr = _mm_getcsr() & ~0x3Fu;
+    return e;
+}
+
+static sigjmp_buf trapped;
+
+static void on_trap(int signal) {
+    (void)signal;
+    siglongjmp(trapped, 1);
+}
+
+/* What a call gives in an environment. An exception of the x87 unit that waits is set off before the environment is left. */
+static void ask_in(struct environment e, const struct question *q, struct answer *a, struct environment *after) {
+    set(e);
+    ask(q, a);
+    __asm__ volatile("fwait");
+    *after = present();
+}
+
+static void tell(const char *what, struct environment e, const struct question *q) {
+    if (differs())
+        printf("%s: %s with MXCSR %04X and control word %04X, %s %s by %s\n", operation_names[q->operation], what, e.mxcsr,
+               (unsigned)e.control, formats[q->format].name, text(q->format, q->x), text(q->format, q->y));
+}
+
+static void compare(struct environment e, struct environment usual, const struct question *q, const struct answer *want) {
+    static struct answer got;
+    static struct environment after;
+    if (sigsetjmp(trapped, 0)) {
+        set(usual);
+        tell("a trap", e, q);
+        return;
+    }
+    ask_in(e, q, &got, &after);
+    set(usual);
+    if (memcmp(&got, want, sizeof got) != 0)
+        tell("another answer", e, q);
+    if (after.mxcsr != e.mxcsr || after.control != e.control)
+        tell("another environment is left", e, q);
+}
+
+/* A number that no question has would leave a refusal untried: it counts as a difference. */
+static void print_numbers(const struct answer *answers, uint64_t cases) {
+    uint64_t seen[16] = {0}, i;
+    for (i = 0; i < cases; i++)
+        seen[answers[i].number & 15]++;
+    printf("%" PRIu64 " questions:", cases);
+    for (i = 0; i < 16; i++) {
+        printf(" %u: %" PRIu64 "%s", (unsigned)i, seen[i], i < 15 ? "," : "\n");
+        if (seen[i] == 0 && differs())
+            printf(" number %u has no question,", (unsigned)i);
+    }
+}
+
+int main(int argc, char **argv) {
+    uint64_t cases = pairs_asked(argc, argv, 16000), state = seed_asked(argc, argv), i;
+    struct question *questions = (struct question *)malloc(cases * sizeof *questions);
+    struct answer *answers = (struct answer *)malloc(cases * sizeof *answers);
+    struct environment usual = present();
+    struct sigaction action;
+    unsigned e;
+    memset(&action, 0, sizeof action);
+    action.sa_handler = on_trap;
+    action.sa_flags = SA_NODEFER;
+    if (!questions || !answers || sigaction(SIGFPE, &action, NULL)) {
+        perror("modes");
+        return 2;
+    }
+    for (i = 0; i < cases; i++) {
+        questions[i] = any_question((int)(i % OPERATIONS), &state);
+        ask(&questions[i], &answers[i]);
+    }
+    for (e = 0; going(e, ENVIRONMENTS); e++)
+        for (i = 0; i < cases; i++) {
+            compare(environment_of(e, ALL_MASKED), usual, &questions[i], &answers[i]);
+            compare(environment_of(e, UNMASKED), usual, &questions[i], &answers[i]);
+        }
+    print_numbers(answers, cases);
+    printf("each in %d environments, with exceptions masked and unmasked\n", ENVIRONMENTS);
+    free(questions);
+    free(answers);
+    return verdict();
+}
+
+#endif
