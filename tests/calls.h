@@ -260,16 +260,26 @@ static inline int going(uint64_t done, uint64_t all) {
     return done < all;
 }
 
-/* Differences: all are counted, the first ones printed. */
-static uint64_t differences;
+/* Differences: all are counted, the first ones of each part of a test printed. */
+static uint64_t differences, printed;
+static int printed_of_part;
+
+static inline void next_part(void) {
+    printed_of_part = 0;
+}
 
 static inline int differs(void) {
-    return differences++ < 20;
+    differences++;
+    if (printed_of_part == 20)
+        return 0;
+    printed_of_part++;
+    printed++;
+    return 1;
 }
 
 static inline int verdict(void) {
-    if (differences > 20)
-        printf("(%" PRIu64 " more differences)\n", differences - 20);
+    if (differences > printed)
+        printf("(%" PRIu64 " more differences)\n", differences - printed);
     printf("%s: %" PRIu64 " differences\n", differences ? "FAILED" : "ok", differences);
     return differences != 0;
 }

@@ -15,11 +15,14 @@ unaltered() {
     FAULT=none "$folder/"$1 > "$log" 2>&1 || { echo "$1: complains of no fault"; missed=$((missed + 1)); }
 }
 
-# Blocks and lists of 2^32 bytes that the machine has no room for: the program says so, and the row is not tried.
+# Blocks, lists and files of 2^32 bytes that the machine has no room for, or no limit of memory: the program says so, and the row is not
+# tried.
 no_room() {
     case $1 in
     *'long block'*) grep -m 1 '^no room for a long block' "$log" ;;
     *'long list'*) grep -m 1 '^no room for long lists' "$log" ;;
+    *'long file'*) grep -m 1 '^no room for a long file' "$log" ;;
+    *'little memory'*) grep -m 1 '^no limit of memory here' "$log" ;;
     *) return 1 ;;
     esac
 }
@@ -174,6 +177,91 @@ ldexp 2000  | split64-denormal-exponent-from-its-field   | ^binary64 .* split
 ldexp 2000  | split64-refusal-writes                     | ^binary64 .* split
 ldexp 2000  | split80-loses-its-sign                     | ^x87 .* split
 ldexp 2000  | split80-exponent-one-too-low               | ^x87 .* split
+stems 2000  | stem-open-most-is-3999                     | ^a good file: the number
+stems 2000  | stem-open-start-one-point-too-far          | ^a good file: what is written
+stems 2000  | stem-open-start-one-point-too-far          | ^a good file: other points
+stems 2000  | stem-open-start-one-point-too-far          | ^a good file: a byte outside
+stems 2000  | stem-open-count-one-too-many               | ^a good file: what is written
+stems 2000  | stem-open-count-one-too-many               | ^a good file: a byte outside
+stems 2000  | stem-open-period-and-origin-exchanged      | ^a good file: what is written
+stems 2000  | stem-open-kind-of-a-turn                   | ^a good file: what is written
+stems 2000  | stem-open-writes-behind-the-kind           | ^a good file: an output is touched
+stems 2000  | stem-open-file-written                     | ^a good file: the file is changed
+stems 2000  | stem-open-reads-a-byte-more                | ^a good file: a byte outside
+stems 2000  | stem-open-reads-a-byte-before              | ^a good file: a byte outside
+stems 2000  | stem-open-mark-in-either-case              | ^a byte of the header: the number
+stems 2000  | stem-open-two-letters                      | ^a byte of the header: the number
+stems 2000  | stem-open-version-of-one-byte              | ^a byte of the header: the number
+stems 2000  | stem-open-kind-is-one-bit                  | ^a byte of the header: the number
+stems 2000  | stem-open-13-and-14-exchanged              | ^a byte of the header: the number
+stems 2000  | stem-open-count-believed                   | ^a byte of the header: the number
+stems 2000  | stem-open-negative-period                  | ^a byte of the header: the number
+stems 2000  | stem-open-turn-has-an-origin               | ^a byte of the header: the number
+stems 2000  | stem-open-reads-26-bytes-of-any-file       | ^a length: a byte outside
+stems 2000  | stem-open-part-of-a-point-ignored          | ^a length: the number
+stems 2000  | stem-open-refusal-writes-the-start         | ^a length: an output is touched
+stems 2000  | stem-open-most-is-4001                     | ^a count: the number
+stems 2000  | stem-open-refusal-writes-the-count         | ^a count: an output is touched
+stems 2000  | stem-open-product-of-32-bits               | ^a far count: the number
+stems 2000  | stem-open-length-before-count              | ^a far count: the number
+stems 2000  | stem-open-reads-the-last-point-of-the-count | ^a far count: a byte outside
+stems 2000  | stem-open-zero-period                      | ^a gauge: the number
+stems 2000  | stem-open-minus-zero-period                | ^a gauge: the number
+stems 2000  | stem-open-infinite-period                  | ^a gauge: the number
+stems 2000  | stem-open-quiet-nan-period                 | ^a gauge: the number
+stems 2000  | stem-open-signalling-nan-period            | ^a gauge: the number
+stems 2000  | stem-open-turn-has-a-minus-zero            | ^a gauge: the number
+stems 2000  | stem-open-infinite-origin                  | ^a gauge: the number
+stems 2000  | stem-open-nan-origin                       | ^a gauge: the number
+stems 2000  | stem-open-origin-in-a-float                | ^a gauge: what is written
+stems 2000  | stem-open-refusal-writes-the-kind          | ^a gauge: an output is touched
+stems 2000  | stem-open-mark-before-length               | ^faults together: the number
+stems 2000  | stem-open-version-before-mark              | ^faults together: the number
+stems 2000  | stem-open-kind-before-version              | ^faults together: the number
+stems 2000  | stem-open-gauge-before-count               | ^faults together: the number
+stems 2000  | stem-open-length-cut-to-32-bits            | ^a long file: the number
+stems 99999 | stem-open-some-denormals-refused           | ^a random file: the number
+stems 2000  | stem-open-asks-for-memory                  | ^little memory: the number
+stems 2000  | stem-open-keeps-memory                     | ^little memory: the process has grown
+stems 2000  | stem-fold-kind-cut-to-a-byte               | ^a class of point: the number
+stems 2000  | stem-fold-gauge-before-kind                | ^a class of point: the number
+stems 2000  | stem-fold-nan-kept                         | ^a class of point: reading not finite
+stems 2000  | stem-fold-refused-gauge-folds              | ^a point: the number
+stems 2000  | stem-fold-turn-has-an-origin               | ^a point: the number
+stems 2000  | stem-fold-infinite-difference-refused      | ^a point: the number
+stems 2000  | stem-fold-refusal-writes                   | ^a point: wrote where it may not
+stems 2000  | stem-fold-writes-the-radius                | ^a point: wrote where it may not
+stems 2000  | stem-fold-infinite-reading-kept            | ^a point: reading not finite
+stems 2000  | stem-fold-mark-is-negative                 | ^a point: reading not finite
+stems 2000  | stem-fold-infinite-difference-kept         | ^a point: difference infinite
+stems 2000  | stem-fold-turn-is-nearest                  | ^a point: of a turn
+stems 2000  | stem-fold-zero-loses-its-sign              | ^a point: of a turn
+stems 2000  | stem-fold-origin-added                     | ^a point: difference exact
+stems 2000  | stem-fold-denormals-flushed                | ^a point: difference exact
+stems 2000  | stem-fold-remainder-before-the-subtraction | ^a point: rounded
+stems 2000  | stem-fold-difference-cut                   | ^a point: rounded
+stems 99999 | stem-fold-rounded-twice                    | ^a point: rounded
+stems 2000  | stem-fold-half-to-odd                      | ^a point: at a half
+stems 2000  | stem-fold-origin-added                     | ^a point of a file:
+stems 1     | none                                       | has no point
+sanitized 2000 | stem-open-start-one-point-too-far       | heap-buffer-overflow
+modes 800   | rem32-last-bit-as-the-rounding-mode-says   | ^remainder: another answer
+modes 8000  | rem64-zero-divisor-is-divided-by           | ^remainder: a trap
+modes 800   | rem16-leaves-another-precision             | ^remainder: another environment is left
+modes 800   | step-c0-lost-in-another-precision          | ^step: another answer
+modes 800   | run-bits-as-the-control-word-rounds        | ^run: another answer
+modes 800   | scale80-rounded-as-the-control-word-says   | ^scaling: another answer
+modes 800   | scale80-rounded-as-the-control-word-says   | ^scaling: a trap
+modes 800   | split32-zero-as-the-processor-compares     | ^split: another answer
+modes 800   | split16-leaves-another-rounding-mode       | ^split: another environment is left
+modes 800   | fold-flushes-as-the-processor-does         | ^list: another answer
+modes 800   | fold-flushes-as-the-processor-does         | ^list: a trap
+modes 800   | stem-open-period-compared-by-the-processor | ^stem file: another answer
+modes 800   | stem-open-period-compared-by-the-processor | ^stem file: a trap
+modes 800   | stem-fold-rounds-as-the-processor-does     | ^stem point: another answer with MXCSR 3F80
+modes 800   | stem-fold-flushes-as-the-processor-does    | ^stem point: another answer
+modes 800   | stem-fold-traps-as-the-processor-does      | ^stem point: a trap
+modes 8     | none                                       | has no question
 host        | rem64-last-bit-is-wrong                    | ^C++ host: FAILED
 host        | rem64-quotient-of-one-bit                  | ^C++ host: FAILED
 host        | rem64-fraction-is-infinite                 | ^C++ host: FAILED

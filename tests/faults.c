@@ -5,8 +5,10 @@
  */
 #include "zukemoriha.h"
 
+#include <math.h>
 #include <stdlib.h>
 #include <string.h>
+#include <xmmintrin.h>
 
 #define REAL(function, ...) uint8_t real_##function(__VA_ARGS__)
 REAL(zk_rem16, uint16_t x, uint16_t y, uint32_t kind, uint16_t *value, uint32_t *quotient);
@@ -26,6 +28,8 @@ REAL(zk_split64, uint64_t x, uint64_t *significand, int32_t *exponent);
 REAL(zk_split80, uint64_t x, uint16_t xw, uint64_t *significand, uint16_t *significandw, int32_t *exponent);
 REAL(zk_fold64, const uint64_t *x, size_t nx, uint64_t *results, size_t nr, uint8_t *quotients, size_t nq, uint64_t y, uint32_t kind,
      size_t *marked);
+REAL(zk_stem_open, const uint8_t *file, size_t length, uint32_t *kind, uint64_t *period, uint64_t *origin, size_t *start, size_t *count);
+REAL(zk_stem_fold, uint32_t kind, uint64_t period, uint64_t origin, uint64_t *reading);
 
 static int fault(const char *name) {
     static const char *asked;
@@ -37,6 +41,18 @@ static int fault(const char *name) {
     return strcmp(asked, name) == 0;
 }
 
+/* The environment of the host, which no answer may depend on. */
+
+static unsigned rounding(void) {
+    return _mm_getcsr() >> 13 & 3;
+}
+
+static uint16_t x87_control(void) {
+    uint16_t control;
+    __asm__ volatile("fnstcw %0" : "=m"(control));
+    return control;
+}
+
 static const uint64_t sign64 = UINT64_C(0x8000000000000000), infinity64 = UINT64_C(0x7FF0000000000000);
 
 uint8_t zk_rem16(uint16_t x, uint16_t y, uint32_t kind, uint16_t *value, uint32_t *quotient) {
@@ -44,6 +60,10 @@ uint8_t zk_rem16(uint16_t x, uint16_t y, uint32_t kind, uint16_t *value, uint32_
     if (fault("rem16-only-1-is-nearest"))
         kind = kind == 1;
     number = real_zk_rem16(x, y, kind, value, quotient);
+    if (fault("rem16-leaves-another-precision")) {
+        uint16_t control = x87_control() & ~0x0300;
+        __asm__ volatile("fldcw %0" : : "m"(control));
+    }
     if (fault("rem16-quotient-of-two-bits") && number == ZK_FINISHED)
         *quotient &= 3;
     if (fault("rem16-refusal-writes") && number == ZK_ZERO_DIVISOR)
@@ -57,6 +77,8 @@ uint8_t zk_rem16(uint16_t x, uint16_t y, uint32_t kind, uint16_t *value, uint32_
 
 uint8_t zk_rem32(uint32_t x, uint32_t y, uint32_t kind, uint32_t *value, uint32_t *quotient) {
     uint8_t number = real_zk_rem32(x, y, kind, value, quotient);
+    if (fault("rem32-last-bit-as-the-rounding-mode-says") && number == ZK_FINISHED && rounding() != 0)
+        *value ^= 1;
     if (fault("rem32-eight-is-not-folded") && number == ZK_FINISHED && kind && *quotient == 0 && *value != x)
         *quotient = 8; /* eight is not folded onto nothing */
     if (fault("rem32-far-quotient-of-two-bits") && number == ZK_FINISHED && (int)(x >> 23 & 255) - (int)(y >> 23 & 255) >= 100)
@@ -84,6 +106,10 @@ static void half_up(uint64_t x, uint64_t y, uint64_t *value, uint32_t *quotient)
 uint8_t zk_rem64(uint64_t x, uint64_t y, uint32_t kind, uint64_t *value, uint32_t *quotient) {
     uint8_t number = real_zk_rem64(x, y, kind, value, quotient);
     int fields = (int)(x >> 52 & 2047) - (int)(y >> 52 & 2047);
+    if (fault("rem64-zero-divisor-is-divided-by") && number == ZK_ZERO_DIVISOR) {
+        volatile double divisor = zk_double_of_pattern(y), quotient_of_one = 1 / divisor;
+        (void)quotient_of_one;
+    }
     if (fault("rem64-half-always-up") && number == ZK_FINISHED && kind)
         half_up(x, y, value, quotient);
     if (fault("rem64-zero-loses-its-sign") && number == ZK_FINISHED && *value == sign64)
@@ -135,6 +161,8 @@ uint8_t zk_step80(uint64_t x, uint16_t xw, uint64_t y, uint16_t yw, uint32_t siz
     number = real_zk_step80(x, xw, y, yw, size, kind, block, length);
     if (fault("step-c3-and-c1-exchanged") && number == ZK_FINISHED)
         block[11] = (block[11] & 4) | (block[11] & 1) << 1 | (block[11] >> 1 & 1);
+    if (fault("step-c0-lost-in-another-precision") && number == ZK_FINISHED && (x87_control() & 0x0300) != 0x0300)
+        block[11] &= 3;
     if (fault("step-c0-lost") && number == ZK_FINISHED)
         block[11] &= 3;
     if (fault("step-quotient-of-four-bits") && number == ZK_FINISHED && kind && block[11] == 0 && x != zk_block_significand(block))
@@ -195,6 +223,8 @@ uint8_t zk_run80(uint64_t x, uint16_t xw, uint64_t y, uint16_t yw, uint32_t size
         return block[10] = ZK_SPENT; /* spent by its last step */
     if (fault("run-spent-after-two-steps-has-no-bits") && number == ZK_SPENT && zk_block_steps(block) > 1)
         block[11] = 0;
+    if (fault("run-bits-as-the-control-word-rounds") && zk_is_answer(number) && (x87_control() & 0x0C00) != 0)
+        block[11] ^= 1;
     if (fault("run-steps-cut-to-10-bits") && zk_is_answer(number))
         block[13] &= 3;
     if (fault("run-a-step-too-many") && zk_is_answer(number) && zk_block_steps(block) > 511)
@@ -255,6 +285,12 @@ uint8_t zk_scale80(uint64_t x, uint16_t xw, int32_t power, uint64_t *value, uint
         *value = 1;
         *says = ZK_UP;
     }
+    if (fault("scale80-rounded-as-the-control-word-says") && number == ZK_FINISHED) {
+        volatile long double product = zk_long_double_of_pattern(*value, *valuew), one = 1;
+        product *= one;
+        *value = zk_significand_of_long_double(product);
+        *valuew = zk_word_of_long_double(product);
+    }
     if (fault("scale80-nan-is-unsupported") && number == ZK_NAN)
         return ZK_UNSUPPORTED;
     return number;
@@ -262,6 +298,8 @@ uint8_t zk_scale80(uint64_t x, uint16_t xw, int32_t power, uint64_t *value, uint
 
 uint8_t zk_split16(uint16_t x, uint16_t *significand, int32_t *exponent) {
     uint8_t number = real_zk_split16(x, significand, exponent);
+    if (fault("split16-leaves-another-rounding-mode"))
+        _mm_setcsr(_mm_getcsr() | 0x2000);
     if (fault("split16-denormal-loses-its-sign") && number == ZK_FINISHED && (x & 0x7FFF) < 0x400)
         *significand &= 0x7FFF; /* the sign of a denormal */
     return number;
@@ -269,6 +307,9 @@ uint8_t zk_split16(uint16_t x, uint16_t *significand, int32_t *exponent) {
 
 uint8_t zk_split32(uint32_t x, uint32_t *significand, int32_t *exponent) {
     uint8_t number = real_zk_split32(x, significand, exponent);
+    volatile float value = zk_float_of_pattern(x);
+    if (fault("split32-zero-as-the-processor-compares") && number == ZK_FINISHED && value == 0)
+        return ZK_ZERO_SPLIT; /* a denormal, where denormals are taken for zeros */
     if (fault("split32-zero-is-five") && number == ZK_ZERO_SPLIT)
         return ZK_ZERO_DIVISOR;
     return number;
@@ -319,6 +360,11 @@ uint8_t zk_fold64(const uint64_t *x, size_t nx, uint64_t *results, size_t nr, ui
             quotients[i] = 0; /* bits of the first places alone */
         if (fault("fold-mark-is-negative") && quotients[i] == ZK_MARK)
             results[i] |= sign64; /* the processor's NaN, which is negative */
+        if (fault("fold-flushes-as-the-processor-does") && quotients[i] != ZK_MARK) {
+            volatile double product = zk_double_of_pattern(results[i]), one = 1;
+            product *= one;
+            results[i] = zk_pattern_of_double(product);
+        }
         if (fault("fold-zero-loses-its-sign") && quotients[i] != ZK_MARK && (results[i] & ~sign64) == 0)
             results[i] = 0; /* the sign of a zero */
     }
@@ -338,5 +384,261 @@ uint8_t zk_fold64(const uint64_t *x, size_t nx, uint64_t *results, size_t nr, ui
         ((uint64_t *)x)[0] ^= sign64;
     if (fault("fold-marked-list-is-refused") && number == ZK_FINISHED && *marked > 0)
         return ZK_NAN;
+    return number;
+}
+
+/* ---- stem files */
+
+enum { PERIOD = 10, ORIGIN = 18, COPIED = 26 + 16 * 4200 };
+
+static uint64_t little(const uint8_t *bytes, int n) {
+    uint64_t number = 0;
+    while (n-- > 0)
+        number = number << 8 | bytes[n];
+    return number;
+}
+
+static void put(uint8_t *bytes, uint64_t number, int n) {
+    for (; n > 0; n--, number >>= 8)
+        *bytes++ = (uint8_t)number;
+}
+
+static int is_nan(uint64_t pattern) {
+    return (pattern & ~sign64) > infinity64;
+}
+
+/* A period that is none, taken for one by the fault of its class. */
+static int period_let_through(uint64_t period) {
+    const uint64_t quiet = UINT64_C(1) << 51;
+    return (fault("stem-open-zero-period") && period == 0) || (fault("stem-open-minus-zero-period") && period == sign64) ||
+           (fault("stem-open-negative-period") && period > sign64 && period < (sign64 | infinity64)) ||
+           (fault("stem-open-infinite-period") && (period & ~sign64) == infinity64) ||
+           (fault("stem-open-quiet-nan-period") && is_nan(period) && (period & quiet)) ||
+           (fault("stem-open-signalling-nan-period") && is_nan(period) && !(period & quiet));
+}
+
+static int origin_let_through(uint8_t kind, uint64_t origin) {
+    return (fault("stem-open-turn-has-an-origin") && kind == 0) || (fault("stem-open-turn-has-a-minus-zero") && kind == 0 && origin == sign64) ||
+           (fault("stem-open-infinite-origin") && kind == 1 && (origin & ~sign64) == infinity64) ||
+           (fault("stem-open-nan-origin") && kind == 1 && is_nan(origin));
+}
+
+/* The header of a file with what a fault lets through made good, and the length that it then has. The points do not matter. */
+static size_t made_good(uint8_t *file, size_t length) {
+    uint64_t count = little(file + 6, 4), asked = 26 + 16 * count;
+    if (fault("stem-open-mark-in-either-case"))
+        file[0] &= 0xDF, file[1] &= 0xDF, file[2] &= 0xDF;
+    if (fault("stem-open-two-letters"))
+        file[2] = 'M';
+    if (fault("stem-open-version-of-one-byte"))
+        file[4] = 0;
+    if (fault("stem-open-kind-is-one-bit"))
+        file[5] &= 1;
+    if (period_let_through(little(file + PERIOD, 8)))
+        put(file + PERIOD, 1, 8);
+    if (origin_let_through(file[5], little(file + ORIGIN, 8)))
+        put(file + ORIGIN, 0, 8);
+    if (fault("stem-open-count-believed") && count <= 4000)
+        return (size_t)asked;
+    if (fault("stem-open-part-of-a-point-ignored") && length - asked < 16)
+        return (size_t)asked;
+    if ((fault("stem-open-most-is-4001") && count == 4001 && length == asked) ||
+        (fault("stem-open-product-of-32-bits") && count > 4000 && length == (uint32_t)asked)) {
+        put(file + 6, 0, 4);
+        return 26;
+    }
+    return fault("stem-open-length-cut-to-32-bits") ? (uint32_t)length : length;
+}
+
+/* What is told of a file that is refused. */
+static uint8_t told(const uint8_t *file, size_t length, uint8_t number) {
+    uint64_t period = length < 26 ? 0 : little(file + PERIOD, 8);
+    if (fault("stem-open-13-and-14-exchanged") && (number == 13 || number == 14))
+        return 27 - number;
+    if (fault("stem-open-mark-before-length") && number == 14 && length > 2 && length < 26 && memcmp(file, "STM", 3) != 0)
+        return ZK_STEM_MARK;
+    if (fault("stem-open-version-before-mark") && number == ZK_STEM_MARK && file[3] != 1)
+        return ZK_STEM_VERSION;
+    if (fault("stem-open-kind-before-version") && number == ZK_STEM_VERSION && file[5] > 1)
+        return ZK_STEM_KIND;
+    if (fault("stem-open-length-before-count") && number == ZK_STEM_COUNT && length != 26 + 16 * little(file + 6, 4))
+        return ZK_STEM_LENGTH;
+    if (fault("stem-open-gauge-before-count") && (number == 13 || (number == 14 && length > 25)) && period == 0)
+        return ZK_STEM_GAUGE;
+    return number;
+}
+
+/* What is done to a file that should only be looked at. */
+static void looked_at(const uint8_t *file, size_t length) {
+    const volatile uint8_t *byte = file;
+    if (fault("stem-open-reads-a-byte-more"))
+        (void)byte[length];
+    if (fault("stem-open-reads-a-byte-before"))
+        (void)byte[-1];
+    if (fault("stem-open-reads-26-bytes-of-any-file"))
+        (void)byte[25];
+    if (fault("stem-open-reads-the-last-point-of-the-count") && length > 25)
+        (void)byte[25 + 16 * little(file + 6, 4)];
+    if (fault("stem-open-file-written") && length > 26)
+        ((uint8_t *)file)[length - 1] ^= 1;
+}
+
+/* Whether a period is above zero, by a comparison of the processor: not where denormals are zeros, and a NaN is an invalid operand. */
+static int above_zero(uint64_t period) {
+    volatile double value = zk_double_of_pattern(period);
+    return value > 0;
+}
+
+static void *volatile memory;
+
+/* Memory for as many points as the count says; 0 if there is none. */
+static int memory_for(uint64_t count) {
+    memory = malloc((size_t)(16 * count));
+    free(memory);
+    return memory != NULL;
+}
+
+uint8_t zk_stem_open(const uint8_t *file, size_t length, uint32_t *kind, uint64_t *period, uint64_t *origin, size_t *start, size_t *count) {
+    static uint8_t copy[COPIED];
+    const uint8_t *lent = file;
+    uint8_t number;
+    size_t given = length;
+    looked_at(file, length);
+    if (fault("stem-open-keeps-memory"))
+        memory = malloc(16);
+    if (fault("stem-open-asks-for-memory") && length > 25 && !memory_for(little(file + 6, 4)))
+        return ZK_STEM_LENGTH;
+    if (length > 25) {
+        memcpy(copy, file, 26);
+        given = made_good(copy, length);
+        if (given != length || memcmp(copy, file, 26) != 0)
+            lent = copy;
+    }
+    number = real_zk_stem_open(lent, given, kind, period, origin, start, count);
+    if (fault("stem-open-most-is-3999") && number == 0 && *count == 4000)
+        return ZK_STEM_COUNT;
+    if (fault("stem-open-some-denormals-refused") && number == 0 && *period >> 33 != 0 && *period >> 51 == 0)
+        return ZK_STEM_GAUGE;
+    if (fault("stem-open-period-compared-by-the-processor") && (number == 0 || number == 15) && !above_zero(little(file + PERIOD, 8)))
+        return ZK_STEM_GAUGE;
+    if (fault("stem-open-refusal-writes-the-count") && number == ZK_STEM_COUNT)
+        *count = (size_t)little(file + 6, 4);
+    if (fault("stem-open-refusal-writes-the-kind") && number == ZK_STEM_GAUGE)
+        *kind = file[5];
+    if (fault("stem-open-refusal-writes-the-start") && number == ZK_STEM_LENGTH)
+        *start = 0;
+    if (number != ZK_FINISHED)
+        return told(file, length, number);
+    *count = (size_t)little(file + 6, 4);
+    *kind = file[5];
+    *period = little(file + PERIOD, 8);
+    *origin = little(file + ORIGIN, 8);
+    if (fault("stem-open-start-one-point-too-far"))
+        *start += 16;
+    if (fault("stem-open-count-one-too-many"))
+        *count += 1;
+    if (fault("stem-open-period-and-origin-exchanged"))
+        *period = little(file + ORIGIN, 8), *origin = little(file + PERIOD, 8);
+    if (fault("stem-open-origin-in-a-float"))
+        *origin &= ~UINT64_C(0x1FFFFFFF);
+    if (fault("stem-open-kind-of-a-turn") && *kind == ZK_ROLLER)
+        *kind = ZK_TURN;
+    if (fault("stem-open-writes-behind-the-kind"))
+        kind[1] = 0;
+    return number;
+}
+
+/* reading - origin with the processor's MXCSR set to `control`. */
+static uint64_t processor_difference(uint64_t reading, uint64_t origin, unsigned control) {
+    unsigned before = _mm_getcsr();
+    volatile double x = zk_double_of_pattern(reading), y = zk_double_of_pattern(origin), left;
+    _mm_setcsr(control);
+    left = x - y;
+    _mm_setcsr(before);
+    return zk_pattern_of_double(left);
+}
+
+/* reading - origin with a half rounded to the odd one: the other neighbour lies as far on the other side. What is lost is Knuth's. */
+static uint64_t odd_difference(uint64_t reading, uint64_t origin) {
+    volatile double x = zk_double_of_pattern(reading), y = zk_double_of_pattern(origin), left = x - y, back = left - x, kept = left - back;
+    volatile double part = -y - back, lost = (x - kept) + part, other = left + 2 * lost;
+    return zk_pattern_of_double(isfinite(other) ? other : left);
+}
+
+/* reading - origin rounded to 64 bits, then to 53. */
+static uint64_t twice_rounded(uint64_t reading, uint64_t origin) {
+    volatile long double left = (long double)zk_double_of_pattern(reading) - zk_double_of_pattern(origin);
+    return zk_pattern_of_double((double)left);
+}
+
+/* The difference as a fault makes it, or 0 returned. The host's rounding, or its flushing, is obeyed by two of them. */
+static int other_difference(uint64_t reading, uint64_t origin, uint64_t *left) {
+    const unsigned usual = 0x1F80, host = _mm_getcsr();
+    if (fault("stem-fold-origin-added"))
+        *left = processor_difference(reading, origin ^ sign64, usual);
+    else if (fault("stem-fold-difference-cut"))
+        *left = processor_difference(reading, origin, usual | 0x6000);
+    else if (fault("stem-fold-half-to-odd"))
+        *left = odd_difference(reading, origin);
+    else if (fault("stem-fold-rounded-twice"))
+        *left = twice_rounded(reading, origin);
+    else if (fault("stem-fold-denormals-flushed"))
+        *left = processor_difference(reading, origin, usual | 0x8040);
+    else if (fault("stem-fold-rounds-as-the-processor-does"))
+        *left = processor_difference(reading, origin, usual | (host & 0x6000));
+    else if (fault("stem-fold-flushes-as-the-processor-does"))
+        *left = processor_difference(reading, origin, usual | (host & 0x8040));
+    else if (fault("stem-fold-traps-as-the-processor-does"))
+        *left = processor_difference(reading, origin, usual & host);
+    else
+        return 0;
+    return 1;
+}
+
+uint8_t zk_stem_fold(uint32_t kind, uint64_t period, uint64_t origin, uint64_t *reading) {
+    uint64_t before = *reading, left;
+    uint32_t bits;
+    uint8_t number;
+    int is_finite = (before & infinity64) != infinity64;
+    if (fault("stem-fold-kind-cut-to-a-byte"))
+        kind &= 255;
+    if (fault("stem-fold-gauge-before-kind") && kind > 1 && period == 0)
+        return ZK_STEM_GAUGE;
+    if (fault("stem-fold-turn-has-an-origin") && kind == ZK_TURN)
+        origin = 0;
+    if (fault("stem-fold-refused-gauge-folds"))
+        period &= ~sign64;
+    number = real_zk_stem_fold(kind, period, origin, reading);
+    if (fault("stem-fold-refusal-writes") && number == ZK_STEM_GAUGE)
+        *reading = ZK_HOUSE_NAN64;
+    if (number != ZK_FINISHED)
+        return number;
+    if (kind == ZK_ROLLER && is_finite && other_difference(before, origin, &left)) {
+        *reading = left;
+        real_zk_stem_fold(ZK_TURN, period, 0, reading);
+    }
+    if (fault("stem-fold-remainder-before-the-subtraction") && kind == ZK_ROLLER) {
+        *reading = before;
+        real_zk_stem_fold(ZK_TURN, period, 0, reading);
+        real_zk_stem_fold(kind, period, origin, reading);
+    }
+    if (fault("stem-fold-turn-is-nearest") && kind == ZK_TURN && is_finite)
+        real_zk_rem64(before, period, ZK_NEAREST, reading, &bits);
+    if (fault("stem-fold-infinite-reading-kept") && (before & ~sign64) == infinity64)
+        *reading = before;
+    if (fault("stem-fold-nan-kept") && is_nan(before))
+        *reading = before;
+    if (fault("stem-fold-infinite-difference-kept") && is_finite && *reading == ZK_HOUSE_NAN64)
+        *reading = infinity64;
+    if (fault("stem-fold-infinite-difference-refused") && is_finite && *reading == ZK_HOUSE_NAN64) {
+        *reading = before;
+        return ZK_INFINITE;
+    }
+    if (fault("stem-fold-mark-is-negative") && *reading == ZK_HOUSE_NAN64)
+        *reading |= sign64;
+    if (fault("stem-fold-zero-loses-its-sign") && *reading == sign64)
+        *reading = 0;
+    if (fault("stem-fold-writes-the-radius"))
+        reading[1] = 0;
     return number;
 }

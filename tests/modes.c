@@ -240,11 +240,12 @@ int main(int argc, char **argv) {
         questions[i] = any_question((int)(i % OPERATIONS), &state);
         ask(&questions[i], &answers[i]);
     }
-    for (e = 0; going(e, ENVIRONMENTS); e++)
-        for (i = 0; i < cases; i++) {
-            compare(environment_of(e, ALL_MASKED), usual, &questions[i], &answers[i]);
-            compare(environment_of(e, UNMASKED), usual, &questions[i], &answers[i]);
-        }
+    for (e = 0; going(e, 2 * ENVIRONMENTS); e++) {
+        if (e == ENVIRONMENTS)
+            next_part();
+        for (i = 0; i < cases; i++)
+            compare(environment_of(e, e < ENVIRONMENTS ? ALL_MASKED : UNMASKED), usual, &questions[i], &answers[i]);
+    }
     print_numbers(answers, cases);
     printf("each in %d environments, with exceptions masked and unmasked\n", ENVIRONMENTS);
     free(questions);

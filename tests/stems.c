@@ -97,14 +97,11 @@ static int tell(const char *what, const uint8_t *file, size_t length) {
     return 1;
 }
 
-/* What a host would do: every byte of every point is read where the library says that it is. */
-static uint64_t sum_of_points(const uint8_t *file, size_t start, size_t count) {
-    const volatile uint8_t *byte = file + start;
-    uint64_t sum = 0;
-    size_t i;
-    for (i = 0; i < POINT * count; i++)
-        sum = sum * 31 + byte[i];
-    return sum;
+/* What a host would do: the points are taken from where the library says that they are, every byte of them. */
+static int points_differ(const uint8_t *lent, struct opened got, const uint8_t *file, struct opened want) {
+    static uint8_t points[POINT * (MOST + 1)];
+    memcpy(points, lent + got.start, POINT * (got.count <= MOST ? got.count : MOST + 1));
+    return memcmp(points, file + HEADER, POINT * want.count) != 0;
 }
 
 /* The file as it lies at `lent`, a copy of `file`. */
@@ -120,7 +117,7 @@ static void compare_lent(const uint8_t *lent, const uint8_t *file, size_t length
         tell("an output is touched", file, length);
     if (memcmp(lent, file, length) != 0)
         tell("the file is changed", file, length);
-    if (got.number == 0 && sum_of_points(lent, got.start, got.count) != sum_of_points(file, HEADER, want.count))
+    if (got.number == 0 && points_differ(lent, got, file, want))
         tell("other points", file, length);
 }
 
@@ -139,10 +136,13 @@ static void compare_placed(const uint8_t *file, size_t length, struct opened wan
 
 static uint8_t *first_byte, *wall; /* a page ends before the one, another begins at the other; neither can be read */
 static sigjmp_buf outside;
+static volatile sig_atomic_t awaited; /* a file is being judged; at any other time the program ends as without a handler */
 
-static void on_outside(int signal) {
-    (void)signal;
-    siglongjmp(outside, 1);
+static void on_outside(int number) {
+    if (!awaited)
+        signal(number, SIG_DFL);
+    else
+        siglongjmp(outside, 1);
 }
 
 static void make_walls(void) {
@@ -162,10 +162,12 @@ static void make_walls(void) {
 
 static void compare_at(uint8_t *lent, const uint8_t *file, size_t length, struct opened want) {
     memcpy(lent, file, length);
+    awaited = 1;
     if (sigsetjmp(outside, 0) == 0)
         compare_lent(lent, file, length, want);
     else
         tell("a byte outside of the file is read", file, length);
+    awaited = 0;
 }
 
 static void compare_placed(const uint8_t *file, size_t length, struct opened want) {
@@ -217,16 +219,15 @@ static void good_files(void) {
 
 /* Every byte of the header with every other value. */
 static void changed_bytes(void) {
-    uint32_t kind, count;
+    uint32_t kind;
     int byte, value;
     for (kind = 0; kind < 2; kind++)
-        for (count = 0; count < 4; count += 3)
-            for (byte = 0; byte < HEADER; byte++)
-                for (value = 0; value < 256; value++) {
-                    size_t length = good_file(kind, count);
-                    room[byte] = (uint8_t)value;
-                    compare_file(room, length);
-                }
+        for (byte = 0; byte < HEADER; byte++)
+            for (value = 0; value < 256; value++) {
+                size_t length = good_file(kind, 3 * kind);
+                room[byte] = (uint8_t)value;
+                compare_file(room, length);
+            }
 }
 
 /* Every length from nothing to the whole file, and beyond it. */
@@ -241,12 +242,12 @@ static void lengths(void) {
             }
 }
 
-/* Counts with the length that they ask for and ones beside it. Counts above the limit have the length too, where there is room. */
-static void all_counts(void) {
+/* Counts near the ends, and some between, with the length that they ask for and ones beside it. Those above the limit have it too. */
+static void counts_and_lengths(void) {
     static const int beside[] = {-16, -1, 0, 1, 16};
     uint32_t count;
     size_t i;
-    for (count = 0; count <= MOST + 100; count++)
+    for (count = 0; count <= MOST + 100; count += count < 64 || count >= MOST - 64 ? 1 : 61)
         for (i = 0; i < sizeof beside / sizeof *beside; i++) {
             size_t length = good_file(count & 1, count) + (size_t)beside[i];
             if (length <= LONGEST)
@@ -310,8 +311,8 @@ static void gauges(void) {
 /* Several faults in one file: the first in the order is told. */
 static void faults_together(void) {
     static const char *const marks[] = {"STM", "sTM", "StM", "STm"};
-    static const unsigned versions[] = {1, 0, 2, 0x100, 0x101}, kinds[] = {0, 1, 2, 128, 255};
-    static const uint32_t counts[] = {0, 2, MOST, MOST + 1, UINT32_MAX};
+    static const unsigned versions[] = {1, 2, 0x101}, kinds[] = {0, 1, 255};
+    static const uint32_t counts[] = {0, 2, MOST + 1, UINT32_MAX};
     static const size_t off[] = {0, 1, 16};
     static const uint64_t periods[] = {UINT64_C(0x4076800000000000), 0, UINT64_C(0xFFF8000000000000)};
     static const uint64_t origins[] = {0, UINT64_C(0x4076800000000000), UINT64_C(0x7FF0000000000000)};
@@ -343,14 +344,23 @@ static void long_file(void) {
     }
     memcpy(file, room, length);
     files++;
-    if (call_open(file, far).number != ZK_STEM_LENGTH)
-        tell("the number", file, far);
+    awaited = 1;
+    if (sigsetjmp(outside, 0) != 0)
+        tell("a byte outside of the file is read", room, length);
+    else if (call_open(file, far).number != ZK_STEM_LENGTH)
+        tell("the number", room, length);
+    awaited = 0;
     munmap(file, far);
 #endif
 }
 
-static void try_part(const char *name, void (*run)(void)) {
+static void begin(const char *name) {
     part = name;
+    next_part();
+}
+
+static void try_part(const char *name, void (*run)(void)) {
+    begin(name);
     run();
 }
 
@@ -358,7 +368,7 @@ static void written_files(void) {
     try_part("a good file", good_files);
     try_part("a byte of the header", changed_bytes);
     try_part("a length", lengths);
-    try_part("a count", all_counts);
+    try_part("a count", counts_and_lengths);
     try_part("a far count", far_counts_files);
     try_part("a gauge", gauges);
     try_part("faults together", faults_together);
@@ -395,7 +405,7 @@ static size_t random_file(uint64_t *state) {
 
 static void random_files(uint64_t cases, uint64_t seed) {
     uint64_t state = seed, i;
-    part = "a random file";
+    begin("a random file");
     for (i = 0; going(i, cases); i++)
         compare_file(room, random_file(&state));
 }
@@ -467,7 +477,7 @@ static void classes_of_points(void) {
     for (k = 0; k < sizeof kinds / sizeof *kinds; k++)
         for (period = 0; period < CLASSES; period++)
             for (origin = 0; origin < CLASSES; origin++)
-                for (reading = 0; reading < CLASSES; reading += kinds[k] > 1 ? 7 : 1) {
+                for (reading = 0; reading < CLASSES; reading += kinds[k] > 1 ? 13 : 1) {
                     p.kind = kinds[k];
                     p.period = classes[period];
                     p.origin = classes[origin];
@@ -585,7 +595,7 @@ static void print_outcomes(uint64_t points) {
 
 static void points(uint64_t cases, uint64_t seed) {
     uint64_t state = seed, i;
-    part = "a point";
+    begin("a point");
     memset(outcomes, 0, sizeof outcomes);
     memset(zeros, 0, sizeof zeros);
     for (i = 0; going(i, cases); i++)
@@ -597,7 +607,7 @@ static void points(uint64_t cases, uint64_t seed) {
 static void whole_files(uint64_t cases, uint64_t seed) {
     uint64_t state = seed, i;
     size_t j;
-    part = "a point of a file";
+    begin("a point of a file");
     for (i = 0; i < cases; i++) {
         struct opened o;
         struct point p;
@@ -653,7 +663,7 @@ static void little_memory(void) {
     setrlimit(RLIMIT_AS, &limit);
     if (!memory_is_refused(65536))
         printf("no limit of memory here: not tried\n");
-    for (i = 0; i < 1000; i++) {
+    for (i = 0; i < 100; i++) {
         good_file(i & 1, far_counts[i % (sizeof far_counts / sizeof *far_counts)]);
         compare_file(room, HEADER);
         compare_file(room, HEADER + POINT * MOST);
