@@ -188,9 +188,14 @@ static void ask_in(struct environment e, const struct question *q, struct answer
 }
 
 static void tell(const char *what, struct environment e, const struct question *q) {
-    if (differs())
-        printf("%s: %s with MXCSR %04X and control word %04X, %s %s by %s\n", operation_names[q->operation], what, e.mxcsr,
-               (unsigned)e.control, formats[q->format].name, text(q->format, q->x), text(q->format, q->y));
+    if (!differs())
+        return;
+    printf("%s: %s with MXCSR %04X and control word %04X, ", operation_names[q->operation], what, e.mxcsr, (unsigned)e.control);
+    if (q->operation == OPEN || q->operation == STEM_FOLD)
+        printf("kind %u period %016" PRIX64 " origin %016" PRIX64 " reading %016" PRIX64 "\n", (unsigned)q->kind, q->list[0], q->list[1],
+               q->list[2]);
+    else
+        printf("%s %s by %s\n", formats[q->format].name, text(q->format, q->x), text(q->format, q->y));
 }
 
 static void compare(struct environment e, struct environment usual, const struct question *q, const struct answer *want) {

@@ -3,10 +3,10 @@
  *
  *   stems [POINTS [SEED]]    POINTS are folded, and a twentieth as many files are changed at random
  *
- * Every file is judged in two places: an unreadable page begins behind its last byte, then one ends before its first. A byte that is read
- * outside of it is seen there, whatever reads it. With the address sanitizer (make test-sanitized) each file is a block of the heap of its
- * length: the archive is not instrumented, so that what the library itself reads is not seen, but a host that reads the points where the
- * library says they are is, to the byte.
+ * Every file is judged twice, with two fillings of what is lent for the outputs, so that no byte is right by chance, and in two places: an
+ * unreadable page begins behind its last byte, then one ends before its first. A byte that is read outside of the file is seen there,
+ * whatever reads it. With the address sanitizer (make test-sanitized) a file is a block of the heap of its length: the archive is not
+ * instrumented, so that what the library reads is not seen, but what a host reads is, which takes the points from where it is told to.
  */
 #define _GNU_SOURCE
 #include "operands.h"
@@ -129,6 +129,8 @@ static void compare_placed(const uint8_t *file, size_t length, struct opened wan
     uint8_t *lent = (uint8_t *)malloc(length);
     memcpy(lent, file, length);
     compare_lent(lent, file, length, want);
+    filling ^= 0xFF;
+    compare_lent(lent, file, length, want);
     free(lent);
 }
 
@@ -172,6 +174,7 @@ static void compare_at(uint8_t *lent, const uint8_t *file, size_t length, struct
 
 static void compare_placed(const uint8_t *file, size_t length, struct opened want) {
     compare_at(wall - length, file, length, want);
+    filling ^= 0xFF;
     compare_at(first_byte, file, length, want);
 }
 
@@ -681,8 +684,6 @@ int main(int argc, char **argv) {
     make_walls();
     for (i = 0; i < LONGEST; i++)
         room[i] = (uint8_t)(i * 37 + i / 256);
-    written_files();
-    filling = 0x5A;
     written_files();
     random_files(cases / 20 + 1, seed);
     try_part("a class of point", classes_of_points);
