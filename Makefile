@@ -154,9 +154,10 @@ header: $(linked)
 $(out)/%: examples/%.c include/zukemoriha.h $(linked)
 	$(CC) $(cflags) $< $(linked) -o $@
 
-examples: $(out)/fold_angle $(out)/step80
+examples: $(out)/fold_angle $(out)/step80 $(out)/stem_file
 	$(out)/fold_angle | diff $(stored)/fold_angle.out -
 	$(out)/step80 | diff $(stored)/step80.out -
+	$(out)/stem_file | diff $(stored)/stem_file.out -
 
 here = prefix=$(placed) libdir=$(placed)/lib includedir=$(placed)/include pkgconfigdir=$(placed)/lib/pkgconfig DESTDIR=
 
@@ -201,7 +202,7 @@ $(out)/sanitized: $(out)/sanitized.o $(linked)
 	$(CC) $(sanitize) $< $(linked) -lm -o $@
 
 test-sanitized: $(out)/sanitized
-	$< 50000
+	$< 200000
 
 # ---- the long part
 

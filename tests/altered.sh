@@ -37,7 +37,7 @@ header '$a static inline int zk_taken(int class) { return class; }' 'zukemoriha.
 
 cp examples/*.out "$folder/stored"
 passes examples stored="$folder/stored"
-for name in fold_angle step80; do
+for name in fold_angle step80 stem_file; do
     sed '1s/[0-9]/x/' "examples/$name.out" > "$folder/stored/$name.out"
     notices '^< .*x' examples stored="$folder/stored"
     cp "examples/$name.out" "$folder/stored"
