@@ -93,13 +93,13 @@ int main(int argc, char **argv) {
     static uint8_t file[LONGEST + 1], crafted[ZK_STEM_HEADER];
     size_t length;
     int refused;
-    if (argc > 1 && !read_file(argv[1], file, &length)) {
+    if (argc < 2) {
+        length = make_sample(file);
+    } else if (!read_file(argv[1], file, &length)) {
         perror(argv[1]);
         return 2;
     }
-    if (argc == 1)
-        length = make_sample(file);
-    refused = fold_file(argc > 1 ? argv[1] : "the sample", file, length);
+    refused = fold_file(argc < 2 ? "the sample" : argv[1], file, length);
     /* it says that 64 GiB of points follow, and none does */
     put_header(crafted, 0xFFFFFFFF, 812.5, 0);
     fold_file("a crafted file", crafted, sizeof crafted);
