@@ -74,7 +74,7 @@ check: tools ## what has changed is proved, then the tests (minutes)
 
 tests: header documents examples install-check rust $(addprefix test-,$(programs)) test-sanitized controls altered ## the tests alone, on the archive of what is proved
 
-check-long: peers long-half $(addprefix long-,chains fprem libm ldexp libm-musl ldexp-musl mpfr) ## ten million cases a format, musl, MPFR, all pairs of binary16 (an hour; cases=N seed=N for others)
+check-long: peers long-half $(addprefix long-,chains fprem libm ldexp stems libm-musl ldexp-musl mpfr) ## ten million cases a format, musl, MPFR, all pairs of binary16 (an hour; cases=N seed=N for others)
 
 check-faults: $(addprefix $(faults)/,$(programs)) ## the tests on a library with one fault at a time: each has to be noticed
 	sh tests/faults.sh $(faults) '$(subst $(out)/,$(faults)/,$(cargo))'
@@ -194,7 +194,7 @@ $(addprefix $(out)/,$(programs)): $(out)/%: $(out)/%.o $(linked)
 $(addprefix test-,$(programs)): test-%: $(out)/%
 	$<
 
-# stems under the compiler's sanitizers, which Debian's gcc brings: a file is a block of its length, and its points are read as they are told
+# stems under the compiler's sanitizers, which Debian's gcc brings (tests/stems.c says what they see)
 $(out)/sanitized.o: tests/stems.c $(headers) | $(out)
 	$(CC) $(cflags) $(unbuilt) -Itests $(sanitize) -c $< -o $@
 
@@ -206,7 +206,7 @@ test-sanitized: $(out)/sanitized
 
 # ---- the long part
 
-.PHONY: long-half $(addprefix long-,chains fprem libm ldexp libm-musl ldexp-musl mpfr)
+.PHONY: long-half $(addprefix long-,chains fprem libm ldexp stems libm-musl ldexp-musl mpfr)
 
 cases = 10000000
 seed = 2
@@ -218,7 +218,7 @@ $(out)/%-musl: tests/%.c $(headers) $(linked) | peers
 $(out)/mpfr: tests/mpfr.c $(headers) $(linked) | peers
 	$(CC) $(cflags) -Itests $< $(linked) -lmpfr -lgmp -o $@
 
-$(addprefix long-,chains fprem libm ldexp libm-musl ldexp-musl mpfr): long-%: $(out)/%
+$(addprefix long-,chains fprem libm ldexp stems libm-musl ldexp-musl mpfr): long-%: $(out)/%
 	$< $(cases) $(seed)
 
 # all pairs of binary16: against whole-number division, and against the second implementation

@@ -418,7 +418,8 @@ static int period_let_through(uint64_t period) {
 }
 
 static int origin_let_through(uint8_t kind, uint64_t origin) {
-    return (fault("stem-open-turn-has-an-origin") && kind == 0) || (fault("stem-open-turn-has-a-minus-zero") && kind == 0 && origin == sign64) ||
+    return (fault("stem-open-turn-has-an-origin") && kind == 0) ||
+           (fault("stem-open-turn-has-a-minus-zero") && kind == 0 && origin == sign64) ||
            (fault("stem-open-infinite-origin") && kind == 1 && (origin & ~sign64) == infinity64) ||
            (fault("stem-open-nan-origin") && kind == 1 && is_nan(origin));
 }

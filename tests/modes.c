@@ -146,7 +146,7 @@ struct environment {
 
 enum { ROUNDINGS = 4, FLUSHINGS = 4, PRECISIONS = 3, ENVIRONMENTS = 48 };
 
-/* The x87 unit's masks are bits 0 to 5 of its control word, and those of MXCSR bits 7 to 12; the second of each is the denormal operand's. */
+/* The masks are bits 0 to 5 of the x87 unit's control word and bits 7 to 12 of MXCSR; the second of each is the denormal operand's. */
 enum { ALL_MASKED = 0x3F, UNMASKED = 0x02 };
 
 /* Every rounding, the same in both units, by every flushing, by every precision of the x87 unit. */

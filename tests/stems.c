@@ -123,6 +123,12 @@ static void compare_lent(const uint8_t *lent, const uint8_t *file, size_t length
 
 #ifdef __SANITIZE_ADDRESS__
 
+/* The search for leaks at the end asks for rights that not every container gives, and there is nothing to find. */
+const char *__asan_default_options(void);
+const char *__asan_default_options(void) {
+    return "detect_leaks=0";
+}
+
 static void make_walls(void) {}
 
 static void compare_placed(const uint8_t *file, size_t length, struct opened want) {
@@ -154,7 +160,8 @@ static void make_walls(void) {
     memset(&action, 0, sizeof action);
     action.sa_handler = on_outside;
     action.sa_flags = SA_NODEFER;
-    if (all == MAP_FAILED || mprotect(all + page, room, PROT_READ | PROT_WRITE) || sigaction(SIGSEGV, &action, NULL)) {
+    if (all == MAP_FAILED || mprotect(all + page, room, PROT_READ | PROT_WRITE) || sigaction(SIGSEGV, &action, NULL) ||
+        sigaction(SIGBUS, &action, NULL)) {
         perror("stems");
         exit(2);
     }
@@ -274,7 +281,7 @@ static void far_counts_files(void) {
             good_file(kind, far_counts[i]);
             compare_file(room, HEADER);
             compare_file(room, HEADER + POINT);
-            compare_file(room, HEADER + POINT * (far_counts[i] & 4095) <= LONGEST ? HEADER + POINT * (far_counts[i] & 4095) : HEADER);
+            compare_file(room, HEADER + POINT * (far_counts[i] & 4095));
             if (wrapped <= LONGEST)
                 compare_file(room, wrapped);
         }
@@ -335,7 +342,7 @@ static void faults_together(void) {
                         }
 }
 
-/* A length that only its upper bits tell from that of a good file: 2^32 bytes more. They are never read, so that the system need not have them. */
+/* A length that only its upper bits tell from that of a good file. The bytes are never read, so that the system need not have them. */
 static void long_file(void) {
 #ifndef __SANITIZE_ADDRESS__
     size_t length = good_file(ZK_TURN, 1);
@@ -451,7 +458,10 @@ static struct reply theirs(struct point p, int *outcome) {
     }
     if (p.kind == ZK_ROLLER)
         left = reading - origin;
-    *outcome = !isfinite(reading) ? NOT_FINITE : !isfinite(left) ? TOO_LARGE : p.kind == ZK_TURN ? TURNED : rounding_of(reading, origin, left);
+    *outcome = !isfinite(reading)   ? NOT_FINITE
+               : !isfinite(left)    ? TOO_LARGE
+               : p.kind == ZK_TURN ? TURNED
+                                    : rounding_of(reading, origin, left);
     r.value.bits = isfinite(left) ? zk_pattern_of_double(fmod(left, zk_double_of_pattern(p.period))) : UINT64_C(0x7FF8000000000000);
     return r;
 }
@@ -608,7 +618,7 @@ static void points(uint64_t cases, uint64_t seed) {
 
 /* A whole file as a host takes it: opened, and each of its points folded by the gauge that was given. */
 static void whole_files(uint64_t cases, uint64_t seed) {
-    uint64_t state = seed, i;
+    uint64_t state = seed, i, folded = 0;
     size_t j;
     begin("a point of a file");
     for (i = 0; i < cases; i++) {
@@ -617,7 +627,9 @@ static void whole_files(uint64_t cases, uint64_t seed) {
         size_t length = good_file((uint32_t)below(&state, 2), (uint32_t)below(&state, 40));
         for (j = HEADER; j < length; j += 8)
             put(room + j, any_pair(BINARY64, &state).x.bits, 8);
+        compare_file(room, length);
         o = call_open(room, length);
+        folded += o.count;
         p.kind = o.kind;
         p.period = o.period;
         p.origin = o.origin;
@@ -626,6 +638,7 @@ static void whole_files(uint64_t cases, uint64_t seed) {
             compare_point(p);
         }
     }
+    printf("%" PRIu64 " points of %" PRIu64 " files\n", folded, cases);
 }
 
 /* ---- memory */
