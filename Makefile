@@ -32,7 +32,7 @@ pages = .
 placed = $(out)/prefix
 pc = zukemoriha.pc.in
 
-exports = export_remainder export_steps export_scaling export_fold
+exports = export_remainder export_steps export_scaling export_fold export_stems
 programs = host untouched chains fold half fprem libm ldexp stems modes
 version = $(shell sed -n 's/^\#define ZK_VERSION "\(.*\)"/\1/p' include/zukemoriha.h)
 warnings = -Wall -Wextra -pedantic

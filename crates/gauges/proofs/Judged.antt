@@ -29,11 +29,11 @@ positiveOperand (Infinite n) = false
 positiveOperand (Zero n) = false
 positiveOperand (Finite u) = not (u .negative)
 
-and-false : (b : Bool) → b && false ≡ false
+pub and-false : (b : Bool) → b && false ≡ false
 and-false true = refl
 and-false false = refl
 
-and-true : (b : Bool) → b && true ≡ b
+pub and-true : (b : Bool) → b && true ≡ b
 and-true true = refl
 and-true false = refl
 

@@ -67,7 +67,8 @@ fn judge_stem(file: &[u8]) -> u8
     if POINT_LIMIT < count {
         return 13;
     }
-    if file.len() != HEADER_LENGTH + POINT_LENGTH * (count as usize) {
+    let whole = HEADER_LENGTH + POINT_LENGTH * (count as usize);
+    if file.len() != whole {
         return 14;
     }
     if !good_fields(kind as u32, load8(file, 10), load8(file, 18)) {

@@ -1,0 +1,77 @@
+-- A reading and a gauge that have passed floats fold to what they would have folded to. Assumes nothing.
+use mathlib.Core.Path.{_≡_, refl, sym, ap, _∙_}
+use mathlib.Core.Bool.{Bool, true, false, not, cond, _&&_, _||_}
+use Prim.Native.Nat.{ℕ, _≤_}
+use native.Mathlib.Omega.{arith}
+use lib.Dec.{eqb}
+use borrow.Author.Tests.{le-ltb, eq-eqb}
+use Rattle.definitions.specs.Class.{Class}
+use Rattle.definitions.specs.Format.{binary64, classOf, patternOf, houseNan}
+use Rattle.definitions.specs.Numbers.{first, isNan, isInfinite}
+use Rattle.definitions.specs.declared.Kind.the-variants.{Truncated}
+use Rattle.definitions.specs.Remainder.{remainderOf}
+use Rattle.definitions.specs.Difference.{differenceClass, difference}
+use Rattle.definitions.specs.Stem.{Gauge, turn, roller, Point, FoldedPoint, gaugeOf, periodOf, isPositive, good, goodFields, shifted, foldReading, foldPoint, handing}
+use Rattle.floats.proofs.Passed.{passed, class-passed}
+use Rattle.digits.proofs.Tests.{clash}
+use Rattle.gauges.proofs.Judged.{and-false, and-true, good-held}
+use Rattle.points.proofs.Folded.{point-kept, point-folded}
+use Rattle.gauges.specs.Held.{gaugeHeld, gaugeBits}
+
+-- a difference depends on the classes of its operands alone
+difference-passed : (x y : ℕ) → difference binary64 (passed x) (passed y) ≡ difference binary64 x y
+unfolding difference
+difference-passed x y =
+    ap (λ (a : Class). patternOf binary64 (differenceClass binary64 a (classOf binary64 (passed y)))) (class-passed x)
+    ∙ ap (λ (b : Class). patternOf binary64 (differenceClass binary64 (classOf binary64 x) b)) (class-passed y)
+
+-- and so does the fold of what is divided
+abbrev folded : Class → Class → ℕ
+folded d p = cond (isNan d || isInfinite d) (houseNan binary64) (remainderOf binary64 Truncated d p .value)
+
+fold-is : (g : Gauge) (x : ℕ) → foldReading g x ≡ folded (classOf binary64 (shifted g x)) (classOf binary64 (periodOf g))
+unfolding foldReading
+fold-is g x = refl
+
+period-passed : (g : Gauge) → classOf binary64 (periodOf (gaugeBits (gaugeHeld g))) ≡ classOf binary64 (periodOf g)
+period-passed (turn p) = class-passed p
+period-passed (roller p o) = class-passed p
+
+divided-passed : (g : Gauge) (x : ℕ) → classOf binary64 (shifted (gaugeBits (gaugeHeld g)) (passed x)) ≡ classOf binary64 (shifted g x)
+unfolding shifted
+divided-passed (turn p) x = class-passed x
+divided-passed (roller p o) x = ap (classOf binary64) (difference-passed x o)
+
+pub fold-held : (g : Gauge) (x : ℕ) → foldReading (gaugeBits (gaugeHeld g)) (passed x) ≡ foldReading g x
+fold-held g x =
+    fold-is (gaugeBits (gaugeHeld g)) (passed x)
+    ∙ ap (λ (d : Class). folded d (classOf binary64 (periodOf (gaugeBits (gaugeHeld g))))) (divided-passed g x)
+    ∙ ap (λ (p : Class). folded (classOf binary64 (shifted g x)) p) (period-passed g)
+    ∙ sym (fold-is g x)
+
+-- ---- a point that is folded as the fields of a gauge say
+
+module _ (k p o : ℕ) where
+  -- a gauge whose turn has no origin is good if the fields are
+  fields-are : (not (eqb k 0) || eqb o 0) ≡ true → goodFields k p o ≡ good (gaugeOf k p o)
+  unfolding goodFields
+  fields-are e = ap (λ (b : Bool). good (gaugeOf k p o) && b) e ∙ and-true (good (gaugeOf k p o))
+
+  -- and a turn's with an origin are not
+  pub turn-shifted : k ≡ 0 → eqb o 0 ≡ false → goodFields k p o ≡ false
+  unfolding goodFields
+  turn-shifted z h = rw (eq-eqb k 0 z, h) (and-false (isPositive (classOf binary64 p)))
+
+  pub number-told : (q : Point) → k ≤ 1 → (not (eqb k 0) || eqb o 0) ≡ true
+      → foldPoint (gaugeBits (gaugeHeld (gaugeOf k p o))) q .number ≡ first (handing k p o)
+  unfolding foldPoint first
+  number-told q l e =
+      rw (good-held (gaugeOf k p o), ← fields-are e, le-ltb 1 k l)
+
+-- the reading of a point that is folded
+pub reading-told : (g : Gauge) (q : Point) → foldPoint g q .number ≡ 0 → foldPoint g q .point .reading ≡ foldReading g (q .reading)
+reading-told g q z = go (not (good g)) refl
+  where
+    go : (t : Bool) → not (good g) ≡ t → foldPoint g q .point .reading ≡ foldReading g (q .reading)
+    go true e = let r = ap (λ (f : FoldedPoint). f .number) (point-kept g q e) in clash (omega arith)
+    go false e = ap (λ (f : FoldedPoint). f .point .reading) (point-folded g q e)

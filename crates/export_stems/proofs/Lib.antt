@@ -1,0 +1,3 @@
+pub mod Refusing
+pub mod Handed
+pub mod Folded
