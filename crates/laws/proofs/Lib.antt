@@ -22,3 +22,4 @@ pub mod Bytes
 pub mod Block
 pub mod Fold
 pub mod Line
+pub mod Stem
