@@ -150,3 +150,127 @@ module _ (file : List ℕ) where
       go : (t : Bool) → length (cond t (drop headerLength file) []) ≤ length file
       go true = rw (length-drop headerLength file) (omega arith)
       go false = omega arith
+
+-- ---- a file that is accepted is a row of its fields
+
+-- bytes are a number below the weight of the next one
+number-small : (bs : List ℕ) → AreBytes bs → ofBytes bs < 256 ^ length bs
+number-small [] h = lit< tt
+number-small (b ∷ bs) h = omega (arith, pow-suc 256 (length bs), h 0, number-small bs (λ i. h (suc i)))
+
+module _ (file : List ℕ) (are : AreBytes file) where
+  -- what lies at a place is k bytes of the number there, and then what lies after them
+  field-cut : (k at n : ℕ) (rest : List ℕ) → at + k ≤ length file → loaded k at file ≡ n → drop (at + k) file ≡ rest → drop at file ≡ bytesOf k n ++ rest
+  field-cut k at n rest fits is after =
+      let d = drop at file in
+      let e : length (take k d) ≡ k = length-take-le k d (rw (length-drop at file) (omega arith)) in
+      rw (← is, ← after, bytes-of k (take k d) e (take-bytes k d (drop-bytes at file are)), ← drop-drop k at file, take-append-drop k d)
+
+  field-small : (k at : ℕ) → at + k ≤ length file → loaded k at file < 256 ^ k
+  field-small k at fits =
+      let d = drop at file in
+      rw (length-take-le k d (rw (length-drop at file) (omega arith))) at (number-small (take k d) (take-bytes k d (drop-bytes at file are)))
+
+-- the gauge of the fields has these fields, and is taken if they are
+record Held (kind period origin : ℕ) (g : Gauge) : Type 0 where
+  kindIs : kind ≡ kindOf g
+  periodIs : period ≡ periodOf g
+  originIs : origin ≡ originOf g
+  taken : good g ≡ true
+
+held : (kind period origin : ℕ) → kind ≤ 1 → goodFields kind period origin ≡ true → Held kind period origin (gaugeOf kind period origin)
+unfolding goodFields
+held zero period origin l e =
+    let b = and-both (good (turn period)) (eqb origin 0) e in
+    record { kindIs = refl; periodIs = refl; originIs = eqb-true origin 0 (b .1); taken = b .0 }
+held (suc zero) period origin l e =
+    record { kindIs = refl; periodIs = refl; originIs = refl; taken = and-both (good (roller period origin)) true e .0 }
+held (suc (suc k)) period origin l e = absurd (omega arith)
+
+module _ (file : List ℕ) (are : AreBytes file) where
+  passed-row : Passed file → Row file (fileGauge file) (drop headerLength file) (fileCount file)
+  passed-row p =
+      let g = fileGauge file in
+      let points = drop headerLength file in
+      let h = held (fileKind file) (filePeriod file) (fileOrigin file) (p .kind) (p .gauge) in
+      let l = p .header in
+      let origins = field-cut file are 8 18 (originOf g) points (omega arith) (h .originIs) refl in
+      let periods = field-cut file are 8 10 (periodOf g) _ (omega arith) (h .periodIs) origins in
+      let counts = field-cut file are 4 6 (fileCount file) _ (omega arith) refl periods in
+      let kinds = field-cut file are 1 5 (kindOf g) _ (omega arith) (h .kindIs) counts in
+      let versions = field-cut file are 2 3 version _ (omega arith) (p .edition) kinds in
+      record {
+        bytes = field-cut file are 3 0 (ofBytes mark) _ (omega arith) (p .letters) versions;
+        period = rw (← h .periodIs) (field-small file are 8 10 (omega arith));
+        origin = rw (← h .originIs) (field-small file are 8 18 (omega arith));
+        taken = h .taken;
+        most = p .most;
+        long = rw (length-drop headerLength file) (omega (arith, p .long));
+      }
+
+  -- [11.1 to 11.7] an accepted file is the header of the gauge that it gives, and the points that it hands back
+  pub opened-file : (g : Gauge) (points : List ℕ) → stem file ≡ opened g points → Row file g points (fileCount file)
+  unfolding stem
+  opened-file g points = go (eqb (first (judging file)) 0) refl
+    where
+      go : (t : Bool) → eqb (first (judging file)) 0 ≡ t → cond t (opened (fileGauge file) (drop headerLength file)) (refused (first (judging file))) ≡ opened g points
+          → Row file g points (fileCount file)
+      go true e q =
+          let same : fileGauge file ≡ g = cc in
+          let rest : drop headerLength file ≡ points = cc in
+          rw (← same, ← rest) (passed-row (passed file (eqb-true (first (judging file)) 0 e)))
+      go false e q = clash (cc)
+
+-- ---- and such a row is accepted
+
+-- a gauge is that of its fields, and they are as they have to be
+gauge-back : (g : Gauge) → good g ≡ true → (gaugeOf (kindOf g) (periodOf g) (originOf g) ≡ g) × (goodFields (kindOf g) (periodOf g) (originOf g) ≡ true)
+unfolding goodFields
+gauge-back (turn p) e = (refl, rw e)
+gauge-back (roller p o) e = (refl, rw e)
+
+-- the fields of a row, read
+module _ (g : Gauge) (points : List ℕ) (n : ℕ) where
+  abbrev written : List ℕ
+  written = headerOf g n ++ points
+
+  kind-read : fileKind written ≡ kindOf g
+  kind-read = of-bytes 1 (kindOf g) ∙ go g
+    where
+      go : (h : Gauge) → kindOf h % 256 ^ 1 ≡ kindOf h
+      go (turn p) = refl
+      go (roller p o) = refl
+
+  count-read : n ≤ pointLimit → fileCount written ≡ n
+  count-read l = of-bytes 4 n ∙ mod-eq-of-lt (lt-of-le-of-lt l (lit< tt))
+
+  period-read : periodOf g < 2 ^ 64 → filePeriod written ≡ periodOf g
+  period-read l = of-bytes 8 (periodOf g) ∙ mod-eq-of-lt l
+
+  origin-read : originOf g < 2 ^ 64 → fileOrigin written ≡ originOf g
+  origin-read l = of-bytes 8 (originOf g) ∙ mod-eq-of-lt l
+
+  written-passed : periodOf g < 2 ^ 64 → originOf g < 2 ^ 64 → good g ≡ true → n ≤ pointLimit → length points ≡ pointLength * n → Passed written
+  written-passed lp lo e l long =
+      record {
+        header = omega arith;
+        letters = refl;
+        edition = refl;
+        kind = rw kind-read (go g);
+        most = rw (count-read l) l;
+        long = rw (count-read l) (omega arith);
+        gauge = rw (kind-read, period-read lp, origin-read lo) (gauge-back g e .1);
+      }
+    where
+      go : (h : Gauge) → kindOf h ≤ 1
+      go (turn p) = lit≤ tt
+      go (roller p o) = lit≤ tt
+
+  written-opened : periodOf g < 2 ^ 64 → originOf g < 2 ^ 64 → good g ≡ true → n ≤ pointLimit → length points ≡ pointLength * n → stem written ≡ opened g points
+  unfolding stem
+  written-opened lp lo e l long =
+      rw (judged written (written-passed lp lo e l long), kind-read, period-read lp, origin-read lo, gauge-back g e .0)
+
+-- [11.1 to 11.8] any list that is such a row is accepted, with that gauge and those points
+pub file-opened : (file : List ℕ) (g : Gauge) (points : List ℕ) (n : ℕ) → Row file g points n → stem file ≡ opened g points
+file-opened file g points n r = rw (r .bytes) (written-opened g points n (r .period) (r .origin) (r .taken) (r .most) (r .long))
