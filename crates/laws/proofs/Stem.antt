@@ -229,48 +229,43 @@ unfolding goodFields
 gauge-back (turn p) e = (refl, rw e)
 gauge-back (roller p o) e = (refl, rw e)
 
--- the fields of a row, read
-module _ (g : Gauge) (points : List ℕ) (n : ℕ) where
-  abbrev written : List ℕ
-  written = headerOf g n ++ points
+kind-small : (g : Gauge) → kindOf g ≤ 1
+kind-small (turn p) = lit≤ tt
+kind-small (roller p o) = lit≤ tt
 
-  kind-read : fileKind written ≡ kindOf g
-  kind-read = of-bytes 1 (kindOf g) ∙ go g
-    where
-      go : (h : Gauge) → kindOf h % 256 ^ 1 ≡ kindOf h
-      go (turn p) = refl
-      go (roller p o) = refl
+module _ (file : List ℕ) (g : Gauge) (points : List ℕ) (n : ℕ) (r : Row file g points n) where
+  -- its fields, read
+  kind-read : fileKind file ≡ kindOf g
+  kind-read = rw (r .bytes) (of-bytes 1 (kindOf g) ∙ mod-eq-of-lt (lt-of-le-of-lt (kind-small g) (lit< tt)))
 
-  count-read : n ≤ pointLimit → fileCount written ≡ n
-  count-read l = of-bytes 4 n ∙ mod-eq-of-lt (lt-of-le-of-lt l (lit< tt))
+  period-read : filePeriod file ≡ periodOf g
+  period-read = rw (r .bytes) (of-bytes 8 (periodOf g) ∙ mod-eq-of-lt (r .period))
 
-  period-read : periodOf g < 2 ^ 64 → filePeriod written ≡ periodOf g
-  period-read l = of-bytes 8 (periodOf g) ∙ mod-eq-of-lt l
+  origin-read : fileOrigin file ≡ originOf g
+  origin-read = rw (r .bytes) (of-bytes 8 (originOf g) ∙ mod-eq-of-lt (r .origin))
 
-  origin-read : originOf g < 2 ^ 64 → fileOrigin written ≡ originOf g
-  origin-read l = of-bytes 8 (originOf g) ∙ mod-eq-of-lt l
+  -- [11.1] n is the count that the file declares
+  pub row-count : fileCount file ≡ n
+  row-count = rw (r .bytes) (of-bytes 4 n ∙ mod-eq-of-lt (lt-of-le-of-lt (r .most) (lit< tt)))
 
-  written-passed : periodOf g < 2 ^ 64 → originOf g < 2 ^ 64 → good g ≡ true → n ≤ pointLimit → length points ≡ pointLength * n → Passed written
-  written-passed lp lo e l long =
+  row-long : length file ≡ headerLength + pointLength * n
+  row-long = rw (r .bytes) (omega (arith, r .long))
+
+  row-passed : Passed file
+  row-passed =
       record {
-        header = omega arith;
-        letters = refl;
-        edition = refl;
-        kind = rw kind-read (go g);
-        most = rw (count-read l) l;
-        long = rw (count-read l) (omega arith);
-        gauge = rw (kind-read, period-read lp, origin-read lo) (gauge-back g e .1);
+        header = rw row-long (omega arith);
+        letters = rw (r .bytes) refl;
+        edition = rw (r .bytes) refl;
+        kind = rw kind-read (kind-small g);
+        most = rw row-count (r .most);
+        long = rw (row-long, row-count) refl;
+        gauge = rw (kind-read, period-read, origin-read) (gauge-back g (r .taken) .1);
       }
-    where
-      go : (h : Gauge) → kindOf h ≤ 1
-      go (turn p) = lit≤ tt
-      go (roller p o) = lit≤ tt
 
-  written-opened : periodOf g < 2 ^ 64 → originOf g < 2 ^ 64 → good g ≡ true → n ≤ pointLimit → length points ≡ pointLength * n → stem written ≡ opened g points
+  -- [11.1 to 11.8] whatever is such a row is accepted, with that gauge and those points
+  pub file-opened : stem file ≡ opened g points
   unfolding stem
-  written-opened lp lo e l long =
-      rw (judged written (written-passed lp lo e l long), kind-read, period-read lp, origin-read lo, gauge-back g e .0)
-
--- [11.1 to 11.8] any list that is such a row is accepted, with that gauge and those points
-pub file-opened : (file : List ℕ) (g : Gauge) (points : List ℕ) (n : ℕ) → Row file g points n → stem file ≡ opened g points
-file-opened file g points n r = rw (r .bytes) (written-opened g points n (r .period) (r .origin) (r .taken) (r .most) (r .long))
+  file-opened =
+      let rest : drop headerLength file ≡ points = rw (r .bytes) refl in
+      rw (judged file row-passed, kind-read, period-read, origin-read, gauge-back g (r .taken) .0, rest)
