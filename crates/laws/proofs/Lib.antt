@@ -23,3 +23,4 @@ pub mod Block
 pub mod Fold
 pub mod Line
 pub mod Stem
+pub mod Folded

@@ -1,0 +1,103 @@
+-- The fold of a reading, said in other words: what is divided, what it leaves, and the readings that stay as they are. Assumes nothing.
+use mathlib.Core.Path.{_≡_, refl, sym, ap, _∙_}
+use mathlib.Core.Bool.{Bool, true, false, not, cond, _&&_}
+use Prim.Native.Nat.{ℕ, zero, suc, _%_, _<_}
+use native.Mathlib.Nat.{mod-lt, mod-eq-of-lt}
+use native.Mathlib.Omega.{arith}
+use borrow.Author.Tests.{eqb-false, not-true, le-ltb}
+use lib.Dec.{eqb, eqb·suc-zero}
+use lib.IntN.{ℤ, pos, negsuc, natAbs, _-ℤ_}
+use lib.Signed.{ltZ}
+use lib.Ieee.{size}
+use Rattle.digits.proofs.Tests.{clash, and-both}
+use Rattle.definitions.specs.Class.{Value, Class, unsupported, nan, infinite, finite, signed, valueOf}
+use Rattle.definitions.specs.Format.{Format, Regular, Representable, classOf, patternOf, patterns, houseNan, binary64, reach}
+use Rattle.definitions.specs.Numbers.{isUnsupported}
+use Rattle.definitions.specs.declared.Kind.the-variants.{Truncated}
+use Rattle.definitions.specs.Division.{finishBy, finish}
+use Rattle.definitions.specs.Remainder.{Remainder, remainder}
+use Rattle.definitions.specs.Fold.{bad}
+use Rattle.definitions.specs.Round.{Rounded}
+use Rattle.definitions.specs.Difference.{exactDifference, roundedTo, limited, differenceValue, differenceClass, difference}
+use Rattle.definitions.specs.Stem.{Gauge, turn, roller, periodOf, isPositive, good, shifted, foldReading}
+use Rattle.definitions.proofs.Refusals.{supported}
+use Rattle.laws.proofs.Regular.{regular64}
+use Rattle.laws.proofs.Representable.{held-count}
+use Rattle.laws.proofs.RoundTrip.{read-written, read-held, written-read}
+use Rattle.laws.proofs.Range.{exponent-above}
+use Rattle.laws.proofs.Division.{finish-held}
+use Rattle.laws.proofs.Round.{round-exact}
+use Rattle.laws.proofs.Remainder.{remainder-is}
+
+-- ---- the period
+
+-- [11.4] the period of a gauge that is taken: finite and above zero
+pub record Period (g : Gauge) : Type 0 where
+  pub value : Value
+  pub is : classOf binary64 (periodOf g) ≡ finite value
+  pub sign : value .negative ≡ false
+  pub some : 0 < value .count
+
+positive-period : (g : Gauge) → isPositive (classOf binary64 (periodOf g)) ≡ true → Period g
+positive-period g = go (classOf binary64 (periodOf g)) refl
+  where
+    go : (c : Class) → classOf binary64 (periodOf g) ≡ c → isPositive c ≡ true → Period g
+    go unsupported e p = clash (cc)
+    go nan e p = clash (cc)
+    go (infinite s) e p = clash (cc)
+    go (finite w) e p =
+        let b = and-both (not (w .negative)) (not (eqb (w .count) 0)) p in
+        let n = eqb-false (w .count) 0 (not-true (eqb (w .count) 0) (b .1)) in
+        record { value = w; is = e; sign = not-true (w .negative) (b .0); some = positive (w .count) n }
+      where
+        positive : (n : ℕ) → (n ≡ 0 → ⊥) → 0 < n
+        positive zero h = absurd (h refl)
+        positive (suc n) h = omega arith
+
+pub good-period : (g : Gauge) → good g ≡ true → Period g
+unfolding good
+good-period (turn p) e = positive-period (turn p) e
+good-period (roller p o) e = positive-period (roller p o) (and-both (isPositive (classOf binary64 p)) (not (bad o)) e .0)
+
+-- ---- the fold
+
+module _ (g : Gauge) (x : ℕ) where
+  divided : bad (shifted g x) ≡ false → foldReading g x ≡ remainder binary64 Truncated (shifted g x) (periodOf g) .value
+  unfolding foldReading
+  divided b = rw b
+
+  -- [11.10] where what is divided is finite, its remainder by the period: with its sign, below the period
+  module _ (p : Period g) (v : Value) (e : classOf binary64 (shifted g x) ≡ finite v) where
+    abbrev left : Value
+    left = record { negative = v .negative; count = v .count % p .value .count }
+
+    fold-is : foldReading g x ≡ patternOf binary64 (finite left)
+    unfolding finish
+    fold-is =
+        divided (rw e refl)
+        ∙ ap (λ (r : Remainder). r .value) (remainder-is binary64 Truncated (shifted g x) (periodOf g) v (p .value) e (p .is) (p .some))
+
+    pub fold-within : (classOf binary64 (foldReading g x) ≡ finite left) × (left .count < p .value .count)
+    unfolding finishBy
+    fold-within =
+        let hw = read-held binary64 regular64 (periodOf g) (p .value) (p .is) in
+        let hv = read-held binary64 regular64 (shifted g x) v e in
+        (
+          ap (classOf binary64) fold-is ∙ read-written binary64 regular64 left (finish-held binary64 Truncated (p .value .count) v (p .some) hw hv),
+          mod-lt (v .count) (p .some),
+        )
+
+    -- what is below the period already is left as it is
+    pub fold-small : shifted g x < patterns binary64 → v .count < p .value .count → foldReading g x ≡ shifted g x
+    fold-small l h = fold-is ∙ rw (mod-eq-of-lt h) (written-read binary64 regular64 (shifted g x) v l e)
+
+  -- [11.11] where it is not, the house NaN
+  pub fold-nan : ((v : Value) → classOf binary64 (shifted g x) ≡ finite v → ⊥) → foldReading g x ≡ houseNan binary64
+  unfolding foldReading
+  fold-nan none = go (classOf binary64 (shifted g x)) refl (supported binary64 refl (shifted g x))
+    where
+      go : (c : Class) → classOf binary64 (shifted g x) ≡ c → isUnsupported c ≡ false → foldReading g x ≡ houseNan binary64
+      go unsupported e u = clash (cc)
+      go nan e u = rw e
+      go (infinite s) e u = rw e
+      go (finite v) e u = absurd (none v e)
