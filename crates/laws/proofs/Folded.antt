@@ -1,7 +1,7 @@
 -- The fold of a reading, said in other words: what is divided, what it leaves, and the readings that stay as they are. Assumes nothing.
 use mathlib.Core.Path.{_≡_, refl, sym, ap, _∙_}
 use mathlib.Core.Bool.{Bool, true, false, not, cond, _&&_}
-use Prim.Native.Nat.{ℕ, zero, suc, _%_, _<_}
+use Prim.Native.Nat.{ℕ, zero, suc, _-_, _*_, _%_, _^_, _<_}
 use native.Mathlib.Nat.{mod-lt, mod-eq-of-lt}
 use native.Mathlib.Omega.{arith}
 use borrow.Author.Tests.{eqb-false, not-true, le-ltb}
@@ -101,3 +101,60 @@ module _ (g : Gauge) (x : ℕ) where
       go nan e u = rw e
       go (infinite s) e u = rw e
       go (finite v) e u = absurd (none v e)
+
+-- ---- what is divided
+
+module _ (p x : ℕ) where
+  turn-is : shifted (turn p) x ≡ x
+  unfolding shifted
+  turn-is = refl
+
+  -- [11.9, 11.10] a turn leaves a finite reading that is below its period
+  pub fold-turn-small : (w : Period (turn p)) (v : Value) → x < patterns binary64 → classOf binary64 x ≡ finite v → v .count < w .value .count → foldReading (turn p) x ≡ x
+  fold-turn-small w v l e h = rw turn-is at (fold-small (turn p) x w v (rw turn-is e) (rw turn-is l) h)
+
+-- a whole number by its sign and its magnitude; a zero may have either sign
+by-sign : (z : Bool) (d : ℤ) → signed (cond (eqb (natAbs d) 0) z (ltZ d (pos 0))) (natAbs d) ≡ d
+by-sign true (pos zero) = refl
+by-sign false (pos zero) = refl
+by-sign z (pos (suc n)) = rw (eqb·suc-zero n, le-ltb (suc n) 0 (omega arith)) refl
+by-sign z (negsuc n) = rw (eqb·suc-zero n) refl
+
+exact-value : (x y : Value) → valueOf (exactDifference x y) ≡ valueOf x -ℤ valueOf y
+unfolding exactDifference
+exact-value x y = by-sign (x .negative && not (y .negative)) (valueOf x -ℤ valueOf y)
+
+-- what the format holds is not rounded
+module _ (f : Format) (r : Regular f) where
+  rounded-held : (n : ℕ) → Representable f n → roundedTo (f .precision) n ≡ n
+  unfolding roundedTo
+  rounded-held n h =
+      ap (λ (c : Rounded). c .quotient * 2 ^ (size n - f .precision)) (round-exact n (size n - f .precision) (h .digits)) ∙ held-count f n h
+
+  limited-held : (s : Bool) (n : ℕ) → Representable f n → limited f s n ≡ finite (record { negative = s; count = n })
+  unfolding limited
+  limited-held s n h = rw (exponent-above f r n, le-ltb (reach f) (size n) (h .range))
+
+  value-held : (v w : Value) → Representable f (natAbs (valueOf v -ℤ valueOf w)) → differenceValue f v w ≡ finite (exactDifference v w)
+  unfolding differenceValue
+  value-held v w h =
+      let d = exactDifference v w in
+      ap (limited f (d .negative)) (rounded-held (d .count) h) ∙ limited-held (d .negative) (d .count) h
+
+  difference-held : (x y : ℕ) (v w : Value) → classOf f x ≡ finite v → classOf f y ≡ finite w → Representable f (natAbs (valueOf v -ℤ valueOf w))
+      → classOf f (difference f x y) ≡ finite (exactDifference v w)
+  unfolding difference differenceClass exactDifference
+  difference-held x y v w ex ey h = rw (ex, ey) (ap (λ (c : Class). classOf f (patternOf f c)) (value-held v w h) ∙ read-written f r (exactDifference v w) h)
+
+-- a pattern stands for a whole number of the smallest place
+pub record Exactly (x : ℕ) (d : ℤ) : Type 0 where
+  pub value : Value
+  pub is : classOf binary64 x ≡ finite value
+  pub exact : valueOf value ≡ d
+
+-- [11.9] where the difference from a roller's origin is representable, it is divided as it is
+pub shifted-exact : (p o x : ℕ) (v w : Value) → classOf binary64 x ≡ finite v → classOf binary64 o ≡ finite w
+    → Representable binary64 (natAbs (valueOf v -ℤ valueOf w)) → Exactly (shifted (roller p o) x) (valueOf v -ℤ valueOf w)
+unfolding shifted
+shifted-exact p o x v w ex eo h =
+    record { value = exactDifference v w; is = difference-held binary64 regular64 x o v w ex eo h; exact = exact-value v w }
