@@ -23,7 +23,8 @@ use Rattle.definitions.specs.Stem.{Gauge, turn, roller, periodOf, isPositive, g
 use Rattle.definitions.proofs.Refusals.{supported}
 use Rattle.laws.proofs.Regular.{regular64}
 use Rattle.laws.proofs.Representable.{held-count}
-use Rattle.laws.proofs.RoundTrip.{read-written, read-held, written-read}
+use Rattle.laws.proofs.RoundTrip.{read-written, read-held, written-read, read-house-nan, house-nan-small}
+use Rattle.laws.proofs.Small.{remainder-small}
 use Rattle.laws.proofs.Range.{exponent-above}
 use Rattle.laws.proofs.Division.{finish-held}
 use Rattle.laws.proofs.Round.{round-exact}
@@ -61,14 +62,48 @@ good-period (roller p o) e = positive-period (roller p o) (and-both (isPositive 
 
 -- ---- the fold
 
+-- a pattern of binary64 is that of a finite value, or bad
+data Sort (x : ℕ) : Type 0 where
+  number : (v : Value) → classOf binary64 x ≡ finite v → Sort x
+  none : bad x ≡ true → Sort x
+
+sort : (x : ℕ) → Sort x
+sort x = go (classOf binary64 x) refl (supported binary64 refl x)
+  where
+    go : (c : Class) → classOf binary64 x ≡ c → isUnsupported c ≡ false → Sort x
+    go unsupported e u = clash (cc)
+    go nan e u = none (rw e refl)
+    go (infinite s) e u = none (rw e refl)
+    go (finite v) e u = number v e
+
 module _ (g : Gauge) (x : ℕ) where
   divided : bad (shifted g x) ≡ false → foldReading g x ≡ remainder binary64 Truncated (shifted g x) (periodOf g) .value
   unfolding foldReading
   divided b = rw b
 
-  -- [11.10] where what is divided is finite, its remainder by the period: with its sign, below the period
+  not-divided : bad (shifted g x) ≡ true → foldReading g x ≡ houseNan binary64
+  unfolding foldReading
+  not-divided b = rw b
+
+  -- the fold is a pattern, whatever the gauge and the reading
+  pub fold-pattern : foldReading g x < patterns binary64
+  fold-pattern = go (bad (shifted g x)) refl
+    where
+      go : (t : Bool) → bad (shifted g x) ≡ t → foldReading g x < patterns binary64
+      go true b = rw (not-divided b) (house-nan-small binary64 regular64)
+      go false b = rw (divided b) (remainder-small binary64 regular64 Truncated (shifted g x) (periodOf g))
+
+  -- [11.11] where what is divided is not finite, the house NaN
+  pub fold-nan : ((v : Value) → classOf binary64 (shifted g x) ≡ finite v → ⊥) → foldReading g x ≡ houseNan binary64
+  fold-nan never = go (sort (shifted g x))
+    where
+      go : Sort (shifted g x) → foldReading g x ≡ houseNan binary64
+      go (number v e) = absurd (never v e)
+      go (none b) = not-divided b
+
   module _ (p : Period g) (v : Value) (e : classOf binary64 (shifted g x) ≡ finite v) where
-    abbrev left : Value
+    -- what the period leaves of it: its sign, and the remainder of its count
+    abbrev pub left : Value
     left = record { negative = v .negative; count = v .count % p .value .count }
 
     fold-is : foldReading g x ≡ patternOf binary64 (finite left)
@@ -77,6 +112,7 @@ module _ (g : Gauge) (x : ℕ) where
         divided (rw e refl)
         ∙ ap (λ (r : Remainder). r .value) (remainder-is binary64 Truncated (shifted g x) (periodOf g) v (p .value) e (p .is) (p .some))
 
+    -- [11.10] where it is finite, the fold stands for that exactly, and is below the period
     pub fold-within : (classOf binary64 (foldReading g x) ≡ finite left) × (left .count < p .value .count)
     unfolding finishBy
     fold-within =
@@ -91,27 +127,26 @@ module _ (g : Gauge) (x : ℕ) where
     pub fold-small : shifted g x < patterns binary64 → v .count < p .value .count → foldReading g x ≡ shifted g x
     fold-small l h = fold-is ∙ rw (mod-eq-of-lt h) (written-read binary64 regular64 (shifted g x) v l e)
 
-  -- [11.11] where it is not, the house NaN
-  pub fold-nan : ((v : Value) → classOf binary64 (shifted g x) ≡ finite v → ⊥) → foldReading g x ≡ houseNan binary64
-  unfolding foldReading
-  fold-nan none = go (classOf binary64 (shifted g x)) refl (supported binary64 refl (shifted g x))
-    where
-      go : (c : Class) → classOf binary64 (shifted g x) ≡ c → isUnsupported c ≡ false → foldReading g x ≡ houseNan binary64
-      go unsupported e u = clash (cc)
-      go nan e u = rw e
-      go (infinite s) e u = rw e
-      go (finite v) e u = absurd (none v e)
+-- ---- by a turn, which divides the reading itself
 
--- ---- what is divided
+turn-is : (p x : ℕ) → shifted (turn p) x ≡ x
+unfolding shifted
+turn-is p x = refl
 
-module _ (p x : ℕ) where
-  turn-is : shifted (turn p) x ≡ x
-  unfolding shifted
-  turn-is = refl
+-- [11.9, 11.10] a finite reading that is below the period stays as it is
+pub fold-turn-small : (p x : ℕ) (w : Period (turn p)) (v : Value) → x < patterns binary64 → classOf binary64 x ≡ finite v → v .count < w .value .count
+    → foldReading (turn p) x ≡ x
+fold-turn-small p x w v l e h = rw (turn-is p x) at (fold-small (turn p) x w v (rw (turn-is p x) e) (rw (turn-is p x) l) h)
 
-  -- [11.9, 11.10] a turn leaves a finite reading that is below its period
-  pub fold-turn-small : (w : Period (turn p)) (v : Value) → x < patterns binary64 → classOf binary64 x ≡ finite v → v .count < w .value .count → foldReading (turn p) x ≡ x
-  fold-turn-small w v l e h = rw turn-is at (fold-small (turn p) x w v (rw turn-is e) (rw turn-is l) h)
+-- [11.10, 11.11] and to fold once more changes nothing
+pub fold-turn-again : (p x : ℕ) → Period (turn p) → foldReading (turn p) (foldReading (turn p) x) ≡ foldReading (turn p) x
+fold-turn-again p x w = go (sort (shifted (turn p) x))
+  where
+    go : Sort (shifted (turn p) x) → foldReading (turn p) (foldReading (turn p) x) ≡ foldReading (turn p) x
+    go (number v e) = let r = fold-within (turn p) x w v e in fold-turn-small p (foldReading (turn p) x) w _ (fold-pattern (turn p) x) (r .0) (r .1)
+    go (none b) = rw (not-divided (turn p) x b) (not-divided (turn p) (houseNan binary64) (rw (turn-is p (houseNan binary64), read-house-nan binary64 regular64) refl))
+
+-- ---- by a roller, which divides a difference
 
 -- a whole number by its sign and its magnitude; a zero may have either sign
 by-sign : (z : Bool) (d : ℤ) → signed (cond (eqb (natAbs d) 0) z (ltZ d (pos 0))) (natAbs d) ≡ d
