@@ -1,5 +1,5 @@
 -- The fold of a reading, said in other words: what is divided, what it leaves, and the readings that stay as they are. Assumes nothing.
-use mathlib.Core.Path.{_≡_, refl, sym, ap, _∙_}
+use mathlib.Core.Path.{_≡_, refl, ap, _∙_}
 use mathlib.Core.Bool.{Bool, true, false, not, cond, _&&_}
 use Prim.Native.Nat.{ℕ, zero, suc, _-_, _*_, _%_, _^_, _<_}
 use native.Mathlib.Nat.{mod-lt, mod-eq-of-lt}
@@ -117,9 +117,9 @@ module _ (g : Gauge) (x : ℕ) where
     unfolding finishBy
     fold-within =
         let hw = read-held binary64 regular64 (periodOf g) (p .value) (p .is) in
-        let hv = read-held binary64 regular64 (shifted g x) v e in
-        (
-          ap (classOf binary64) fold-is ∙ read-written binary64 regular64 left (finish-held binary64 Truncated (p .value .count) v (p .some) hw hv),
+        let hv = read-held binary64 regular64 (shifted g x) v e in (
+          ap (classOf binary64) fold-is
+              ∙ read-written binary64 regular64 left (finish-held binary64 Truncated (p .value .count) v (p .some) hw hv),
           mod-lt (v .count) (p .some),
         )
 
@@ -134,8 +134,8 @@ unfolding shifted
 turn-is p x = refl
 
 -- [11.9, 11.10] a finite reading that is below the period stays as it is
-pub fold-turn-small : (p x : ℕ) (w : Period (turn p)) (v : Value) → x < patterns binary64 → classOf binary64 x ≡ finite v → v .count < w .value .count
-    → foldReading (turn p) x ≡ x
+pub fold-turn-small : (p x : ℕ) (w : Period (turn p)) (v : Value) → x < patterns binary64 → classOf binary64 x ≡ finite v
+    → v .count < w .value .count → foldReading (turn p) x ≡ x
 fold-turn-small p x w v l e h = rw (turn-is p x) at (fold-small (turn p) x w v (rw (turn-is p x) e) (rw (turn-is p x) l) h)
 
 -- [11.10, 11.11] and to fold once more changes nothing
@@ -143,8 +143,12 @@ pub fold-turn-again : (p x : ℕ) → Period (turn p) → foldReading (turn p) (
 fold-turn-again p x w = go (sort (shifted (turn p) x))
   where
     go : Sort (shifted (turn p) x) → foldReading (turn p) (foldReading (turn p) x) ≡ foldReading (turn p) x
-    go (number v e) = let r = fold-within (turn p) x w v e in fold-turn-small p (foldReading (turn p) x) w _ (fold-pattern (turn p) x) (r .0) (r .1)
-    go (none b) = rw (not-divided (turn p) x b) (not-divided (turn p) (houseNan binary64) (rw (turn-is p (houseNan binary64), read-house-nan binary64 regular64) refl))
+    go (number v e) =
+        let r = fold-within (turn p) x w v e in
+        fold-turn-small p (foldReading (turn p) x) w _ (fold-pattern (turn p) x) (r .0) (r .1)
+    go (none b) =
+        let n = houseNan binary64 in
+        rw (not-divided (turn p) x b) (not-divided (turn p) n (rw (turn-is p n, read-house-nan binary64 regular64) refl))
 
 -- ---- by a roller, which divides a difference
 
@@ -176,10 +180,11 @@ module _ (f : Format) (r : Regular f) where
       let d = exactDifference v w in
       ap (limited f (d .negative)) (rounded-held (d .count) h) ∙ limited-held (d .negative) (d .count) h
 
-  difference-held : (x y : ℕ) (v w : Value) → classOf f x ≡ finite v → classOf f y ≡ finite w → Representable f (natAbs (valueOf v -ℤ valueOf w))
-      → classOf f (difference f x y) ≡ finite (exactDifference v w)
+  difference-held : (x y : ℕ) (v w : Value) → classOf f x ≡ finite v → classOf f y ≡ finite w
+      → Representable f (natAbs (valueOf v -ℤ valueOf w)) → classOf f (difference f x y) ≡ finite (exactDifference v w)
   unfolding difference differenceClass exactDifference
-  difference-held x y v w ex ey h = rw (ex, ey) (ap (λ (c : Class). classOf f (patternOf f c)) (value-held v w h) ∙ read-written f r (exactDifference v w) h)
+  difference-held x y v w ex ey h =
+      rw (ex, ey) (ap (λ (c : Class). classOf f (patternOf f c)) (value-held v w h) ∙ read-written f r (exactDifference v w) h)
 
 -- a pattern stands for a whole number of the smallest place
 pub record Exactly (x : ℕ) (d : ℤ) : Type 0 where

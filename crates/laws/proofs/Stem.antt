@@ -1,20 +1,20 @@
 -- Stem files, said from the other side: which lists of bytes are accepted, byte for byte, what part is handed back, and which numbers
 -- there are. Assumes nothing.
-use mathlib.Core.Path.{_≡_, refl, sym, ap, _∙_}
+use mathlib.Core.Path.{_≡_, refl, sym, _∙_}
 use mathlib.Core.Logic.{_⊎_, inl, inr}
-use mathlib.Core.Bool.{Bool, true, false, not, cond, _&&_, _||_}
+use mathlib.Core.Bool.{Bool, true, false, not, cond}
 use mathlib.Core.List.{List, [], _∷_, _++_}
-use Prim.Native.Nat.{ℕ, zero, suc, _+_, _*_, _%_, _^_, _≤_, _<_}
+use Prim.Native.Nat.{ℕ, zero, suc, _+_, _*_, _^_, _≤_, _<_}
 use native.Mathlib.Nat.{pow-suc, mod-eq-of-lt, lt-of-le-of-lt}
 use native.Mathlib.Omega.{arith}
-use borrow.Author.Tests.{ltb-true, ltb-false, le-ltb, eqb-true, eq-eqb, not-false}
+use borrow.Author.Tests.{ltb-false, le-ltb, eqb-true, eq-eqb}
 use lib.Dec.{ltb, eqb, lit<, lit≤}
 use lib.ListN.{length, take, drop, length-drop, take-append-drop}
 use lib.Seq.{drop-drop, length-take-le}
 use Rattle.digits.proofs.Tests.{clash, and-both}
 use Rattle.definitions.specs.Numbers.{first}
 use Rattle.definitions.specs.Bytes.{bytesOf, ofBytes, loaded}
-use Rattle.definitions.specs.Stem.{Gauge, turn, roller, gaugeOf, periodOf, good, goodFields, headerLength, pointLength, mark, version, pointLimit, fileMark, fileVersion, fileKind, fileCount, filePeriod, fileOrigin, judging, Stem, opened, refused, stem, stemNumber, stemPoints}
+use Rattle.definitions.specs.Stem.{Gauge, turn, roller, gaugeOf, periodOf, good, goodFields, headerLength, pointLength, mark, version, pointLimit, fileMark, fileVersion, fileKind, fileCount, filePeriod, fileOrigin, judging, opened, refused, stem, stemNumber, stemPoints}
 use Rattle.laws.proofs.Bytes.{AreBytes, of-bytes, bytes-of, take-bytes, drop-bytes}
 
 -- ---- the claim
@@ -64,8 +64,9 @@ passed file =
     (ltb pointLimit (fileCount file)) (eqb (length file) (headerLength + pointLength * fileCount file))
     (goodFields (fileKind file) (filePeriod file) (fileOrigin file)) refl refl refl refl refl refl refl
   where
-    go : (a b c d e f h : Bool) → ltb (length file) headerLength ≡ a → eqb (fileMark file) (ofBytes mark) ≡ b → eqb (fileVersion file) version ≡ c
-        → ltb 1 (fileKind file) ≡ d → ltb pointLimit (fileCount file) ≡ e → eqb (length file) (headerLength + pointLength * fileCount file) ≡ f
+    go : (a b c d e f h : Bool) → ltb (length file) headerLength ≡ a → eqb (fileMark file) (ofBytes mark) ≡ b
+        → eqb (fileVersion file) version ≡ c → ltb 1 (fileKind file) ≡ d → ltb pointLimit (fileCount file) ≡ e
+        → eqb (length file) (headerLength + pointLength * fileCount file) ≡ f
         → goodFields (fileKind file) (filePeriod file) (fileOrigin file) ≡ h → firstOf a b c d e f h ≡ 0 → Passed file
     go true b c d e f h ea eb ec ed ee ef eh z = absurd (omega arith)
     go false false c d e f h ea eb ec ed ee ef eh z = absurd (omega arith)
@@ -139,7 +140,8 @@ module _ (file : List ℕ) where
   unfolding stem
   points-part = rw stem-number (go (eqb (first (judging file)) 0))
     where
-      go : (t : Bool) → stemPoints (cond t (opened fileGauge (drop headerLength file)) (refused (first (judging file)))) ≡ cond t (drop headerLength file) []
+      go : (t : Bool)
+          → stemPoints (cond t (opened fileGauge (drop headerLength file)) (refused (first (judging file)))) ≡ cond t (drop headerLength file) []
       go true = refl
       go false = refl
 
@@ -160,7 +162,8 @@ number-small (b ∷ bs) h = omega (arith, pow-suc 256 (length bs), h 0, number-s
 
 module _ (file : List ℕ) (are : AreBytes file) where
   -- what lies at a place is k bytes of the number there, and then what lies after them
-  field-cut : (k at n : ℕ) (rest : List ℕ) → at + k ≤ length file → loaded k at file ≡ n → drop (at + k) file ≡ rest → drop at file ≡ bytesOf k n ++ rest
+  field-cut : (k at n : ℕ) (rest : List ℕ) → at + k ≤ length file → loaded k at file ≡ n → drop (at + k) file ≡ rest
+      → drop at file ≡ bytesOf k n ++ rest
   field-cut k at n rest fits is after =
       let d = drop at file in
       let e : length (take k d) ≡ k = length-take-le k d (rw (length-drop at file) (omega arith)) in
@@ -169,7 +172,8 @@ module _ (file : List ℕ) (are : AreBytes file) where
   field-small : (k at : ℕ) → at + k ≤ length file → loaded k at file < 256 ^ k
   field-small k at fits =
       let d = drop at file in
-      rw (length-take-le k d (rw (length-drop at file) (omega arith))) at (number-small (take k d) (take-bytes k d (drop-bytes at file are)))
+      let e : length (take k d) ≡ k = length-take-le k d (rw (length-drop at file) (omega arith)) in
+      rw e at (number-small (take k d) (take-bytes k d (drop-bytes at file are)))
 
 -- the gauge of the fields has these fields, and is taken if they are
 record Held (kind period origin : ℕ) (g : Gauge) : Type 0 where
@@ -213,7 +217,8 @@ module _ (file : List ℕ) (are : AreBytes file) where
   unfolding stem
   opened-file g points = go (eqb (first (judging file)) 0) refl
     where
-      go : (t : Bool) → eqb (first (judging file)) 0 ≡ t → cond t (opened (fileGauge file) (drop headerLength file)) (refused (first (judging file))) ≡ opened g points
+      go : (t : Bool) → eqb (first (judging file)) 0 ≡ t
+          → cond t (opened (fileGauge file) (drop headerLength file)) (refused (first (judging file))) ≡ opened g points
           → Row file g points (fileCount file)
       go true e q =
           let same : fileGauge file ≡ g = cc in
@@ -224,7 +229,8 @@ module _ (file : List ℕ) (are : AreBytes file) where
 -- ---- and such a row is accepted
 
 -- a gauge is that of its fields, and they are as they have to be
-gauge-back : (g : Gauge) → good g ≡ true → (gaugeOf (kindOf g) (periodOf g) (originOf g) ≡ g) × (goodFields (kindOf g) (periodOf g) (originOf g) ≡ true)
+gauge-back : (g : Gauge) → good g ≡ true
+    → (gaugeOf (kindOf g) (periodOf g) (originOf g) ≡ g) × (goodFields (kindOf g) (periodOf g) (originOf g) ≡ true)
 unfolding goodFields
 gauge-back (turn p) e = (refl, rw e)
 gauge-back (roller p o) e = (refl, rw e)
