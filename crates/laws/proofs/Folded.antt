@@ -49,11 +49,7 @@ positive-period g = go (classOf binary64 (periodOf g)) refl
     go (finite w) e p =
         let b = and-both (not (w .negative)) (not (eqb (w .count) 0)) p in
         let n = eqb-false (w .count) 0 (not-true (eqb (w .count) 0) (b .1)) in
-        record { value = w; is = e; sign = not-true (w .negative) (b .0); some = positive (w .count) n }
-      where
-        positive : (n : ℕ) → (n ≡ 0 → ⊥) → 0 < n
-        positive zero h = absurd (h refl)
-        positive (suc n) h = omega arith
+        record { value = w; is = e; sign = not-true (w .negative) (b .0); some = omega (arith, n) }
 
 pub good-period : (g : Gauge) → good g ≡ true → Period g
 unfolding good
@@ -67,8 +63,8 @@ data Sort (x : ℕ) : Type 0 where
   number : (v : Value) → classOf binary64 x ≡ finite v → Sort x
   none : bad x ≡ true → Sort x
 
-sort : (x : ℕ) → Sort x
-sort x = go (classOf binary64 x) refl (supported binary64 refl x)
+sort-of : (x : ℕ) → Sort x
+sort-of x = go (classOf binary64 x) refl (supported binary64 refl x)
   where
     go : (c : Class) → classOf binary64 x ≡ c → isUnsupported c ≡ false → Sort x
     go unsupported e u = clash (cc)
@@ -95,7 +91,7 @@ module _ (g : Gauge) (x : ℕ) where
 
   -- [11.11] where what is divided is not finite, the house NaN
   pub fold-nan : ((v : Value) → classOf binary64 (shifted g x) ≡ finite v → ⊥) → foldReading g x ≡ houseNan binary64
-  fold-nan never = go (sort (shifted g x))
+  fold-nan never = go (sort-of (shifted g x))
     where
       go : Sort (shifted g x) → foldReading g x ≡ houseNan binary64
       go (number v e) = absurd (never v e)
@@ -117,11 +113,9 @@ module _ (g : Gauge) (x : ℕ) where
     unfolding finishBy
     fold-within =
         let hw = read-held binary64 regular64 (periodOf g) (p .value) (p .is) in
-        let hv = read-held binary64 regular64 (shifted g x) v e in (
-          ap (classOf binary64) fold-is
-              ∙ read-written binary64 regular64 left (finish-held binary64 Truncated (p .value .count) v (p .some) hw hv),
-          mod-lt (v .count) (p .some),
-        )
+        let hv = read-held binary64 regular64 (shifted g x) v e in
+        let held = finish-held binary64 Truncated (p .value .count) v (p .some) hw hv in
+        (ap (classOf binary64) fold-is ∙ read-written binary64 regular64 left held, mod-lt (v .count) (p .some))
 
     -- what is below the period already is left as it is
     pub fold-small : shifted g x < patterns binary64 → v .count < p .value .count → foldReading g x ≡ shifted g x
@@ -140,7 +134,7 @@ fold-turn-small p x w v l e h = rw (turn-is p x) at (fold-small (turn p) x w v (
 
 -- [11.10, 11.11] and to fold once more changes nothing
 pub fold-turn-again : (p x : ℕ) → Period (turn p) → foldReading (turn p) (foldReading (turn p) x) ≡ foldReading (turn p) x
-fold-turn-again p x w = go (sort (shifted (turn p) x))
+fold-turn-again p x w = go (sort-of (shifted (turn p) x))
   where
     go : Sort (shifted (turn p) x) → foldReading (turn p) (foldReading (turn p) x) ≡ foldReading (turn p) x
     go (number v e) =
