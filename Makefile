@@ -27,6 +27,7 @@ faults = target/faulty
 linked = $(out)/lib/libzukemoriha.a
 # what the tests by diff look at; tests/altered.sh gives them altered copies
 header = include/zukemoriha.h
+code = $(linked)
 stored = examples
 pages = .
 placed = $(out)/prefix
@@ -72,7 +73,7 @@ check: tools ## what has changed is proved, then the tests (minutes)
 	$(parallel) tests
 	@echo 'every crate proved, every test passed'
 
-tests: header documents examples install-check rust $(addprefix test-,$(programs)) test-sanitized controls altered ## the tests alone, on the archive of what is proved
+tests: header machine documents examples install-check rust $(addprefix test-,$(programs)) test-sanitized controls altered ## the tests alone, on the archive of what is proved
 
 check-long: peers long-half $(addprefix long-,chains fprem libm ldexp stems libm-musl ldexp-musl mpfr) ## ten million cases a format, musl, MPFR, all pairs of binary16 (an hour; cases=N seed=N for others)
 
@@ -143,13 +144,17 @@ always:
 
 # ---- tests from outside
 
-.PHONY: header documents examples install-check rust test-sanitized $(addprefix test-,$(programs))
+.PHONY: header machine documents examples install-check rust test-sanitized $(addprefix test-,$(programs))
 
 # it compiles, and names what the archive exports, no more and no less
 header: $(linked)
 	echo '#include "$(notdir $(header))"' | $(CC) -std=c99 $(warnings) -Werror -I$(dir $(header)) -fsyntax-only -x c -
 	echo '#include "$(notdir $(header))"' | $(CXX) $(warnings) -Werror -I$(dir $(header)) -fsyntax-only -x c++ -
 	nm -g --defined-only $(linked) | awk 'NF == 3 { print $$3 }' | sort | diff <($(exported) | sort) -
+
+# it is whole, and computes in integers
+machine: $(linked)
+	sh tests/machine.sh $(code)
 
 $(out)/%: examples/%.c include/zukemoriha.h $(linked)
 	$(CC) $(cflags) $< $(linked) -o $@
@@ -252,7 +257,7 @@ controls: $(addprefix $(faults)/,$(programs) sanitized disputed)
 	sh tests/controls.sh $(faults) $(programs) sanitized
 
 # the tests by diff on altered copies, once they have passed on what there is
-altered: header documents examples install-check
+altered: header machine documents examples install-check
 	MAKE='$(MAKE) --no-print-directory' sh tests/altered.sh $(out)/altered
 
 # ---- measurements

@@ -35,6 +35,16 @@ header '/^uint8_t zk_split16(/d' '^> zk_split16$'
 header '$a static inline int zk_taken(bool taken) { return taken; }' 'zukemoriha.h:.*bool'
 header '$a static inline int zk_taken(int class) { return class; }' 'zukemoriha.h:.* error: '
 
+# code FUNCTION LINE
+code() {
+    echo "$1" | ${CC:-gcc} -O1 -x c -c - -o "$folder/code.o"
+    notices "$2" machine code="$folder/code.o"
+}
+
+code 'double twice(double x) { return x + x; }' 'computes by addsd$'
+code 'long double twice(long double x) { return x + x; }' 'computes by f'
+code 'void *malloc(unsigned long); void *room(unsigned long n) { return malloc(n); }' '^asks for malloc$'
+
 cp examples/*.out "$folder/stored"
 passes examples stored="$folder/stored"
 for name in fold_angle step80 stem_file; do
