@@ -20,6 +20,15 @@ use Rattle.floats.proofs.Passed.{passed, passed-is}
 use Rattle.gauges.specs.Held.{gaugeHeld}
 use Rattle.gauges.specs.declared.Gauge.the-variants.{Turn, Roller}
 
+positive-finite : (c : Class) → isPositive c ≡ true → isNan c || isInfinite c ≡ false
+positive-finite unsupported e = refl
+positive-finite nan e = clash (cc)
+positive-finite (infinite n) e = clash (cc)
+positive-finite (finite v) e = refl
+
+abbrev back : Float → ℕ
+back x = toBits Ieee.binary64 x
+
 -- a pattern of 64 bits that is finite
 module _ (b : ℕ) (small : b < 2 ^ 64) where
   finite-passed : (c : Class) → classOf binary64 b ≡ c → isUnsupported c ≡ false → isNan c || isInfinite c ≡ false → passed b ≡ b
@@ -31,39 +40,36 @@ module _ (b : ℕ) (small : b < 2 ^ 64) where
   passes : bad b ≡ false → passed b ≡ b
   passes h = finite-passed (classOf binary64 b) refl (supported binary64 refl b) h
 
-  positive-finite : (c : Class) → isPositive c ≡ true → isNan c || isInfinite c ≡ false
-  positive-finite unsupported e = refl
-  positive-finite nan e = clash (cc)
-  positive-finite (infinite n) e = clash (cc)
-  positive-finite (finite v) e = refl
-
   positive-passes : isPositive (classOf binary64 b) ≡ true → passed b ≡ b
   positive-passes h = passes (positive-finite (classOf binary64 b) h)
 
 -- the fields as a host reads them in each case of the gauge
 module _ (k p o : ℕ) (g : goodFields k p o ≡ true) (ps : p < 2 ^ 64) (os : o < 2 ^ 64) where
-  pub turn-fields : (x : Float) → gaugeHeld (gaugeOf k p o) ≡ Turn x → (k ≡ 0) × (toBits Ieee.binary64 x ≡ p) × (o ≡ 0)
+  pub turn-fields : (x : Float) → gaugeHeld (gaugeOf k p o) ≡ Turn x → (k ≡ 0) × (back x ≡ p) × (o ≡ 0)
   unfolding goodFields
   turn-fields x e = go (eqb k 0) refl e g
     where
       go : (t : Bool) → eqb k 0 ≡ t → gaugeHeld (cond t (turn p) (roller p o)) ≡ Turn x
-          → good (cond t (turn p) (roller p o)) && (not t || eqb o 0) ≡ true → (k ≡ 0) × (toBits Ieee.binary64 x ≡ p) × (o ≡ 0)
+          → good (cond t (turn p) (roller p o)) && (not t || eqb o 0) ≡ true → (k ≡ 0) × (back x ≡ p) × (o ≡ 0)
       go true z e g =
           let b = and-both (isPositive (classOf binary64 p)) (eqb o 0) g in
           let is : ofBits Ieee.binary64 p ≡ x = cc in
-          (eqb-true k 0 z, ap (toBits Ieee.binary64) (sym is) ∙ positive-passes p ps (b .0), eqb-true o 0 (b .1))
+          (eqb-true k 0 z, ap back (sym is) ∙ positive-passes p ps (b .0), eqb-true o 0 (b .1))
       go false z e g = clash (cc)
 
-  pub roller-fields : k ≤ 1 → (x y : Float) → gaugeHeld (gaugeOf k p o) ≡ Roller x y → (k ≡ 1) × (toBits Ieee.binary64 x ≡ p) × (toBits Ieee.binary64 y ≡ o)
+  pub roller-fields : k ≤ 1 → (x y : Float) → gaugeHeld (gaugeOf k p o) ≡ Roller x y → (k ≡ 1) × (back x ≡ p) × (back y ≡ o)
   unfolding goodFields
   roller-fields l x y e = go (eqb k 0) refl e g
     where
       go : (t : Bool) → eqb k 0 ≡ t → gaugeHeld (cond t (turn p) (roller p o)) ≡ Roller x y
-          → good (cond t (turn p) (roller p o)) && (not t || eqb o 0) ≡ true → (k ≡ 1) × (toBits Ieee.binary64 x ≡ p) × (toBits Ieee.binary64 y ≡ o)
+          → good (cond t (turn p) (roller p o)) && (not t || eqb o 0) ≡ true → (k ≡ 1) × (back x ≡ p) × (back y ≡ o)
       go true z e g = clash (cc)
       go false z e g =
-          let b = and-both (isPositive (classOf binary64 p)) (not (bad o)) (and-both (isPositive (classOf binary64 p) && not (bad o)) true g .0) in
+          let positive = isPositive (classOf binary64 p) in
+          let b = and-both positive (not (bad o)) (and-both (positive && not (bad o)) true g .0) in
           let n : (k ≡ 0 → ⊥) = eqb-false k 0 z in
           let first : ofBits Ieee.binary64 p ≡ x = cc in
           let second : ofBits Ieee.binary64 o ≡ y = cc in
-          (omega arith, ap (toBits Ieee.binary64) (sym first) ∙ positive-passes p ps (b .0), ap (toBits Ieee.binary64) (sym second) ∙ passes o os (not-true (bad o) (b .1)))
+          let period = ap back (sym first) ∙ positive-passes p ps (b .0) in
+          let origin = ap back (sym second) ∙ passes o os (not-true (bad o) (b .1)) in
+          (omega arith, period, origin)

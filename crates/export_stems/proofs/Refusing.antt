@@ -24,5 +24,6 @@ refuses (c ∷ cs) r h =
     go true e rest h = e
     go false e rest h = rest h
 
-pub kept : {A : Type 0} (cs : List Check) (n : ℕ) (answer lent : A) → refusing cs ≡ true → first cs ≡ n → (n ≡ 0 → ⊥) → lent ≡ after n answer lent
+pub kept : {A : Type 0} (cs : List Check) (n : ℕ) (answer lent : A) → refusing cs ≡ true → first cs ≡ n → (n ≡ 0 → ⊥)
+    → lent ≡ after n answer lent
 kept cs n answer lent r e h = rw (sym (ap accepted e) ∙ refuses cs r (λ z. h (sym e ∙ z)))

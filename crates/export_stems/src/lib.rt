@@ -6,6 +6,7 @@ use gauges::Gauge;
 use gauges::gauge_of;
 use points::Point;
 use points::fold_point;
+use stems::BAD_KIND;
 use stems::HEADER_LENGTH;
 use stems::POINT_LENGTH;
 use stems::StemAnswer;
@@ -63,7 +64,7 @@ pub extern "C" fn zk_stem_fold(kind: u32, period: u64, origin: u64, reading: &mu
     ensures reading { λ r. ⌜ now (reading .exit) ≡ after r (foldReading (gaugeOf kind period origin) (now (reading .entry))) (now (reading .entry)) ⌝ }
 {
     if 1 < kind {
-        return 12;
+        return BAD_KIND;
     }
     if kind == 0 && origin != 0 {
         return BAD_GAUGE;

@@ -9,7 +9,7 @@ use lib.Dec.{eqb, lit<}
 use lib.ListN.{length, getD, take, drop, length-drop}
 use lib.Seq.{drop-cons, length-take-le}
 use borrow.Author.Tests.{eq-eqb, ne-eqb, eqb-true, eqb-false}
-use Rattle.definitions.specs.Bytes.{ofBytes, loaded}
+use Rattle.definitions.specs.Bytes.{bytesOf, ofBytes, loaded}
 use Rattle.definitions.specs.Stem.{headerLength, mark, fileMark}
 use Rattle.laws.proofs.Bytes.{AreBytes, of-bytes, bytes-of, take-bytes, drop-bytes}
 
@@ -21,7 +21,8 @@ pub loaded-small : (k at : ℕ) (l : List ℕ) → at + k ≤ length l → AreBy
 loaded-small k at l fits h =
     let bs = take k (drop at l) in
     let e : length bs ≡ k = length-take-le k (drop at l) (rw (length-drop at l) (omega arith)) in
-    let is : loaded k at l ≡ loaded k at l % 256 ^ k = sym (ap ofBytes (bytes-of k bs e (take-bytes k (drop at l) (drop-bytes at l h)))) ∙ of-bytes k (loaded k at l) in
+    let back : bytesOf k (loaded k at l) ≡ bs = bytes-of k bs e (take-bytes k (drop at l) (drop-bytes at l h)) in
+    let is : loaded k at l ≡ loaded k at l % 256 ^ k = sym (ap ofBytes back) ∙ of-bytes k (loaded k at l) in
     subst (λ (n : ℕ). n < 256 ^ k) (sym is) (mod-lt (loaded k at l) (one-le-pow k 256 (lit< tt)))
 
 -- three bytes are the number of three others only if each is the other's

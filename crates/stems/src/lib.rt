@@ -26,6 +26,19 @@ pub const POINT_LIMIT: u32 = 4000;
 
 const VERSION: u16 = 1;
 
+// The numbers of refusals, in the order of the checks; the last is that of a bad gauge.
+const TOO_SHORT: u8 = 14;
+
+const BAD_MARK: u8 = 10;
+
+const BAD_VERSION: u8 = 11;
+
+pub const BAD_KIND: u8 = 12;
+
+const BAD_COUNT: u8 = 13;
+
+const BAD_LENGTH: u8 = 14;
+
 // What a file answers: its gauge, or the number of its refusal.
 pub enum StemAnswer {
     Opened(Gauge),
@@ -51,25 +64,25 @@ fn judge_stem(file: &[u8]) -> u8
     ensures { λ r. ⌜ r ≡ first (judging (now (file .entry))) ⌝ }
 {
     if file.len() < HEADER_LENGTH {
-        return 14;
+        return TOO_SHORT;
     }
     if !has_mark(file) {
-        return 10;
+        return BAD_MARK;
     }
     if load2(file, 3) != VERSION {
-        return 11;
+        return BAD_VERSION;
     }
     let kind = file[5];
     if 1 < kind {
-        return 12;
+        return BAD_KIND;
     }
     let count = load4(file, 6);
-    if POINT_LIMIT < count {
-        return 13;
-    }
     let whole = HEADER_LENGTH + POINT_LENGTH * (count as usize);
+    if POINT_LIMIT < count {
+        return BAD_COUNT;
+    }
     if file.len() != whole {
-        return 14;
+        return BAD_LENGTH;
     }
     if !good_fields(kind as u32, load8(file, 10), load8(file, 18)) {
         return BAD_GAUGE;

@@ -1,12 +1,13 @@
 -- `zk_stem_fold` meets its contract: the gauge is judged by its fields, and the fold goes through floats. Assumes nothing.
 use mathlib.Core.Path.{_≡_, refl, sym, ap, _∙_}
 use mathlib.Core.Bool.{true, not, _||_}
+use mathlib.Core.List.{List}
 use mathlib.Core.Logic.{⊎-elim}
 use Prim.Native.Nat.{ℕ}
 use lib.Dec.{eqb}
 use lib.Ieee.{binary64, ofBits, toBits}
 use borrow.Author.Tests.{lt-ltb, le-ltb, eq-eqb, ne-eqb, not-true, not-false}
-use Rattle.definitions.specs.Numbers.{first}
+use Rattle.definitions.specs.Numbers.{Check, first}
 use Rattle.definitions.specs.Stem.{Gauge, Point, FoldedPoint, gaugeOf, foldPoint, handing}
 use Rattle.floats.proofs.Passed.{passed}
 use Rattle.gauges.specs.Held.{gaugeHeld, gaugeBits}
@@ -39,7 +40,11 @@ fold-point-requires c κs = search needs
 
 -- a turn that came so far has no origin
 unshifted : (j : tie.Joined2) → (not (eqb (j .before .before .args .kind) 0) || eqb (j .before .before .args .origin) 0) ≡ true
-unshifted j = ⊎-elim (λ w. rw (eq-eqb _ _ (w .0 .taken), not-false (eqb (j .before .before .args .origin) 0) (w .1 .left))) (λ w. rw (ne-eqb _ _ (w .left))) (j .if2 .came)
+unshifted j =
+    ⊎-elim
+    (λ w. rw (eq-eqb _ _ (w .0 .taken), not-false (eqb (j .before .before .args .origin) 0) (w .1 .left)))
+    (λ w. rw (ne-eqb _ _ (w .left)))
+    (j .if2 .came)
 
 -- what was folded, in the definition's words
 abbrev joined : tie.After-fold-point → tie.Joined2
@@ -47,6 +52,9 @@ joined c = c .before .before .before .before
 
 abbrev start : tie.After-fold-point → tie.Start
 start c = joined c .before .before
+
+abbrev checks : tie.Start → List Check
+checks s = handing (s .args .kind) (s .args .period) (s .args .origin)
 
 abbrev gauge : tie.After-fold-point → Gauge
 gauge c = gaugeOf (start c .args .kind) (start c .args .period) (start c .args .origin)
@@ -60,7 +68,7 @@ point c = record { reading = passed (reading c); radius = toBits binary64 (ofBit
 folded : (c : tie.After-fold-point) → foldedBits (c .fold-point .result) ≡ foldPoint (gaugeBits (gaugeHeld (gauge c))) (point c)
 folded c = rw (← c .before .gauge-of .ensures, ← c .before .before .float-of .ensures) (c .fold-point .ensures)
 
-number-is : (c : tie.After-fold-point) → c .fold-point .result .number ≡ first (handing (start c .args .kind) (start c .args .period) (start c .args .origin))
+number-is : (c : tie.After-fold-point) → c .fold-point .result .number ≡ first (checks (start c))
 number-is c =
     let a = start c .args in
     ap (λ (f : FoldedPoint). f .number) (folded c)
@@ -68,9 +76,9 @@ number-is c =
 
 returns-3 : tie.Need-returns-3
 returns-3 c =
-    let a = start (c .before) .args in
-    let n = number-is (c .before) in
-    (n, kept (handing (a .kind) (a .period) (a .origin)) (c .before .fold-point .result .number) _ (reading (c .before)) refl (sym n) (c .if4 .taken))
+    let d = c .before in
+    let n = number-is d in
+    (n, kept (checks (start d)) (d .fold-point .result .number) _ (reading d) refl (sym n) (c .if4 .taken))
 
 pattern-of-requires : tie.Need-pattern-of-requires
 pattern-of-requires c κs = search needs

@@ -6,7 +6,8 @@ use Prim.Native.Nat.{ℕ, _-_, _^_, _≤_, _<_}
 use native.Mathlib.Omega.{arith}
 use lib.ListN.{length, drop, length-drop}
 use Rattle.definitions.specs.Numbers.{first}
-use Rattle.definitions.specs.Stem.{headerLength, fileKind, fileCount, filePeriod, fileOrigin, gaugeOf, judging, stem, stemNumber, stemPoints}
+use Rattle.definitions.specs.Exports.{after}
+use Rattle.definitions.specs.Stem.{headerLength, fileKind, filePeriod, fileOrigin, gaugeOf, judging, stem, stemNumber, stemPoints}
 use Rattle.definitions.specs.Bytes.{loaded}
 use Rattle.gauges.specs.Held.{gaugeHeld}
 use Rattle.gauges.specs.declared.Gauge.{Gauge}
@@ -56,19 +57,9 @@ returns c =
     let f = a .file .now in
     let n = c .before .number .given .0 .0 in
     let t = told-refused f n (sym (o .open-stem .ensures) ∙ c .before .number .given .1) in
-    let s = sym (ap stemNumber (stem-refused f (λ z. t .1 (sym (t .0) ∙ z))) ∙ t .0) in (
-      s,
-      (
-        kept (judging f) n (fileKind f) (a .kind .now) refl (t .0) (t .1),
-        (
-          kept (judging f) n (filePeriod f) (a .period .now) refl (t .0) (t .1),
-          (
-            kept (judging f) n (fileOrigin f) (a .origin .now) refl (t .0) (t .1),
-            (kept (judging f) n headerLength (a .start .now) refl (t .0) (t .1), kept (judging f) n (fileCount f) (a .count .now) refl (t .0) (t .1)),
-          ),
-        ),
-      ),
-    )
+    let number = sym (ap stemNumber (stem-refused f (λ z. t .1 (sym (t .0) ∙ z))) ∙ t .0) in
+    let left : (answer lent : ℕ) → lent ≡ after n answer lent = λ answer lent. kept (judging f) n answer lent refl (t .0) (t .1) in
+    (number, (left _ (a .kind .now), (left _ (a .period .now), (left _ (a .origin .now), (left _ (a .start .now), left _ (a .count .now))))))
 
 -- ---- an accepted one
 
@@ -100,16 +91,18 @@ field-small m at h =
 written : (m : tie.At-match2-came)
     → (m .match2 .kind ≡ fileKind (file m)) × (m .match2 .period ≡ filePeriod (file m)) × (m .match2 .origin ≡ fileOrigin (file m))
 written m =
-    let f = file m in
     let s = says m in
+    let k = fileKind (file m) in
+    let p = filePeriod (file m) in
+    let o = fileOrigin (file m) in
     let period-small = field-small m 10 (omega arith) in
     let origin-small = field-small m 18 (omega arith) in
     ⊎-elim
     (λ w.
-    let t = turn-fields (fileKind f) (filePeriod f) (fileOrigin f) (s .gauge) period-small origin-small _ (held m ∙ w .1 .given .1) in
+    let t = turn-fields k p o (s .gauge) period-small origin-small _ (held m ∙ w .1 .given .1) in
     (w .4 ∙ sym (t .0), w .5 ∙ w .3 .ensures ∙ t .1, w .6 ∙ sym (t .2)))
     (λ w.
-    let t = roller-fields (fileKind f) (filePeriod f) (fileOrigin f) (s .gauge) period-small origin-small (s .kind) _ _ (held m ∙ w .1 .given .1) in
+    let t = roller-fields k p o (s .gauge) period-small origin-small (s .kind) _ _ (held m ∙ w .1 .given .1) in
     (w .5 ∙ sym (t .0), w .6 ∙ w .3 .ensures ∙ t .1, w .7 ∙ w .4 .ensures ∙ t .2))
     (m .match2 .came)
 

@@ -104,10 +104,6 @@ returns-4 c = sym (past3 (c .before .before) ∙ rw (kind-is (c .before), lt-ltb
 load4-requires : tie.Need-load4-requires
 load4-requires c κs = search needs
 
-returns-5 : tie.Need-returns-5
-unfolding first
-returns-5 c = sym (past4 (c .before .before) ∙ rw (← c .before .load4 .ensures, lt-ltb _ _ (c .if5 .taken)))
-
 cast-whole : tie.Need-cast-whole
 cast-whole c = search needs
 
@@ -116,6 +112,10 @@ mul-whole c = search needs
 
 add-whole : tie.Need-add-whole
 add-whole c = search needs
+
+returns-5 : tie.Need-returns-5
+unfolding first
+returns-5 c = sym (past4 (c .before .before) ∙ rw (← c .before .load4 .ensures, lt-ltb _ _ (c .if5 .taken)))
 
 returns-6 : tie.Need-returns-6
 unfolding first
@@ -153,10 +153,10 @@ judge-stem-spec =
     shared-slice-read-kind
     returns-4
     load4-requires
-    returns-5
     cast-whole
     mul-whole
     add-whole
+    returns-5
     returns-6
     cast-good-fields
     load8-requires
