@@ -6,7 +6,8 @@ use native.Mathlib.Omega.{arith}
 use lib.Dec.{eqb}
 use lib.Ieee as Ieee
 use lib.Ieee.{Float, toBits}
-use Rattle.digits.proofs.Tests.{clash}
+use borrow.Author.Tests.{not-true, not-false}
+use Rattle.digits.proofs.Tests.{clash, and-both}
 use Rattle.definitions.specs.Class.{Class, unsupported, nan, infinite, finite}
 use Rattle.definitions.specs.Format.{binary64, classOf, houseNan}
 use Rattle.definitions.specs.Numbers.{first, dividing, isUnsupported, isNan, isInfinite, isZero}
@@ -39,23 +40,11 @@ pub shifted-roller : (g : code.Gauge) (p o : Float) (x : ℕ) → g ≡ Roller p
 unfolding shifted
 shifted-roller g p o x e = rw e
 
-not-true : (b : Bool) → not b ≡ true → b ≡ false
-not-true true e = sym e
-not-true false e = refl
-
-pub not-false : (b : Bool) → not b ≡ false → b ≡ true
-not-false true e = refl
-not-false false e = sym e
-
 -- the period of a good gauge is above zero
 pub positive-period : (g : Gauge) → good g ≡ true → isPositive (classOf binary64 (periodOf g)) ≡ true
 unfolding good
 positive-period (turn p) e = e
-positive-period (roller p o) e = go (isPositive (classOf binary64 p)) (not (bad o)) e
-  where
-    go : (a b : Bool) → a && b ≡ true → a ≡ true
-    go true b e = refl
-    go false b e = e
+positive-period (roller p o) e = and-both (isPositive (classOf binary64 p)) (not (bad o)) e .0
 
 -- the number of a pair, by what the two stand for
 number-of : (x y : ℕ) → remainder binary64 Truncated x y .number ≡ first (dividing (classOf binary64 x) (classOf binary64 y))
@@ -67,12 +56,7 @@ positive-tests : (b : Class) → isPositive b ≡ true → (isUnsupported b ≡ 
 positive-tests unsupported p = clash (cc)
 positive-tests nan p = clash (cc)
 positive-tests (infinite n) p = clash (cc)
-positive-tests (finite v) p = (refl, refl, go (not (v .negative)) (eqb (v .count) 0) p)
-  where
-    go : (a b : Bool) → a && not b ≡ true → b ≡ false
-    go true true e = sym e
-    go true false e = refl
-    go false b e = clash (cc)
+positive-tests (finite v) p = (refl, refl, not-true (eqb (v .count) 0) (and-both (not (v .negative)) (not (eqb (v .count) 0)) p .1))
 
 -- nothing but a bad dividend is refused by a period above zero
 only-bad : (a b : Class) → isPositive b ≡ true → isUnsupported a ≡ false → eqb (first (dividing a b)) 0 ≡ not (isNan a || isInfinite a)

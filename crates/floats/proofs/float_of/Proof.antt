@@ -1,20 +1,16 @@
+-- `float_of` meets its contract. Assumes nothing.
 use mathlib.Core.Path.{sym, _∙_}
 use Rattle.floats.proofs.Nan.{number, read-nan, zero-by-zero}
 use borrow.Author.Needs.{needs}
 use Rattle.floats.proofs.float_of.Statement.{statement}
 use Rattle.floats.proofs.float_of.Tie as tie
-use Rattle.floats.proofs.float_of.Reads as reads
-use Rattle.floats.proofs.float_of.Lts as lts
 
--- src/lib.rt:12:9
 float-from-bits-result : tie.Need-float-from-bits-result
 float-from-bits-result c = number (c .before .args .pattern) (c .if1 .taken)
 
--- src/lib.rt:8:1
 returns : tie.Need-returns
 returns c = search needs
 
--- src/lib.rt:8:1
 returns-2 : tie.Need-returns-2
 returns-2 c = zero-by-zero ∙ sym (read-nan (c .before .args .pattern) (c .if1 .left))
 

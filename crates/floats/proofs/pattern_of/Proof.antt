@@ -1,21 +1,17 @@
+-- `pattern_of` meets its contract. Assumes nothing.
 use mathlib.Core.Path.{sym, ap, _∙_}
 use lib.Ieee.{binary64, toBits}
 use Rattle.floats.proofs.Nan.{not-nan, only-nan, house}
 use borrow.Author.Needs.{needs}
 use Rattle.floats.proofs.pattern_of.Statement.{statement}
 use Rattle.floats.proofs.pattern_of.Tie as tie
-use Rattle.floats.proofs.pattern_of.Reads as reads
-use Rattle.floats.proofs.pattern_of.Lts as lts
 
--- src/lib.rt:25:9
 float-to-bits-result : tie.Need-float-to-bits-result
 float-to-bits-result c = not-nan (c .before .args .x) (c .if1 .left)
 
--- src/lib.rt:19:1
 returns : tie.Need-returns
 returns c = sym (ap (toBits binary64) (only-nan (c .before .args .x) (c .if1 .taken)) ∙ house)
 
--- src/lib.rt:19:1
 returns-2 : tie.Need-returns-2
 returns-2 c = search needs
 

@@ -1,30 +1,23 @@
+-- `gauge_of` meets its contract. Assumes nothing.
 use mathlib.Core.Path.{ap}
 use borrow.Author.Tests.{eq-eqb, ne-eqb}
 use Rattle.gauges.specs.declared.Gauge.the-variants.{Turn}
 use borrow.Author.Needs.{needs}
 use Rattle.gauges.proofs.gauge_of.Statement.{statement}
 use Rattle.gauges.proofs.gauge_of.Tie as tie
-use Rattle.gauges.proofs.gauge_of.Reads as reads
-use Rattle.gauges.proofs.gauge_of.Lts as lts
-use Rattle.floats.proofs.float_of.Reads as float-of-reads
 
--- src/lib.rt:46:21
 float-of-requires : tie.Need-float-of-requires
 float-of-requires c κs = search needs
 
--- src/lib.rt:50:21
 float-of-requires-2 : tie.Need-float-of-requires-2
 float-of-requires-2 c κs = search needs
 
--- src/lib.rt:51:21
 float-of-requires-3 : tie.Need-float-of-requires-3
 float-of-requires-3 c κs = search needs
 
--- src/lib.rt:41:1
 returns : tie.Need-returns
 returns c = simp (eq-eqb _ _ (c .before .if1 .taken)) (ap Turn (c .float-of .ensures))
 
--- src/lib.rt:41:1
 returns-2 : tie.Need-returns-2
 returns-2 c = simp (ne-eqb _ _ (c .before .before .if1 .left)) (cc)
 

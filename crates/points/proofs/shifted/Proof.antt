@@ -1,3 +1,4 @@
+-- `shifted` meets its contract. Assumes nothing.
 use mathlib.Core.Path.{sym, ap, _∙_}
 use Prim.Native.Nat.{ℕ}
 use Rattle.definitions.specs.Format.{binary64}
@@ -6,32 +7,22 @@ use Rattle.points.proofs.Folded.{shifted-turn, shifted-roller}
 use borrow.Author.Needs.{needs}
 use Rattle.points.proofs.shifted.Statement.{statement}
 use Rattle.points.proofs.shifted.Tie as tie
-use Rattle.points.proofs.shifted.Reads as reads
-use Rattle.points.proofs.shifted.Lts as lts
-use Rattle.difference.proofs.patterns.difference64.Reads as difference64-reads
-use Rattle.floats.proofs.pattern_of.Reads as pattern-of-reads
 
--- src/lib.rt:43:38
 enum-told : tie.Need-enum-told
 enum-told c = search needs
 
--- src/lib.rt:44:36
 enum-known-gauge : tie.Need-enum-known-gauge
 enum-known-gauge c = search needs
 
--- src/lib.rt:44:70
 pattern-of-requires : tie.Need-pattern-of-requires
 pattern-of-requires c κs = search needs
 
--- src/lib.rt:44:48
 difference64-requires : tie.Need-difference64-requires
 difference64-requires c κs = search needs
 
--- src/lib.rt:39:1
 returns : tie.Need-returns
 returns c = sym (shifted-turn (c .before .before .args .gauge) _ (c .before .before .args .reading) (c .enum-told .given .1))
 
--- src/lib.rt:39:1
 returns-2 : tie.Need-returns-2
 returns-2 c =
     let k = c .before .before .before in
