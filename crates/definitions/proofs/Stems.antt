@@ -64,18 +64,19 @@ pub differences : map (λ (r : Row). difference binary64 (r .x) (r .y)) rows ≡
 unfolding difference size classOf patternOf magnitude
 differences = refl
 
--- ---- [11.1 to 11.8] a turn of 360 with two points, and a roller with none, byte by byte
+-- ---- [11.1 to 11.8] a turn of 360 with three points, and a roller with none, byte by byte
 abbrev bytes8 : ℕ → ℕ → ℕ → ℕ → ℕ → ℕ → ℕ → ℕ → List ℕ → List ℕ
 bytes8 a b c d e f g h rest = a ∷ b ∷ c ∷ d ∷ e ∷ f ∷ g ∷ h ∷ rest
 
 abbrev points : List ℕ
 points =
     bytes8 0x01 0x02 0x03 0x04 0x05 0x06 0x07 0x08 (bytes8 0x11 0x12 0x13 0x14 0x15 0x16 0x17 0x18
-    (bytes8 0x21 0x22 0x23 0x24 0x25 0x26 0x27 0x28 (bytes8 0x31 0x32 0x33 0x34 0x35 0x36 0xF7 0x7F [])))
+    (bytes8 0x21 0x22 0x23 0x24 0x25 0x26 0x27 0x28 (bytes8 0x31 0x32 0x33 0x34 0x35 0x36 0xF7 0x7F
+    (bytes8 0x41 0x42 0x43 0x44 0x45 0xD6 0x76 0x40 (bytes8 0x51 0x52 0x53 0x54 0x55 0x56 0x57 0x58 [])))))
 
 abbrev turnFile : List ℕ
 turnFile =
-    0x53 ∷ 0x54 ∷ 0x4D ∷ 1 ∷ 0 ∷ 0 ∷ 2 ∷ 0 ∷ 0 ∷ 0 ∷ bytes8 0 0 0 0 0 0x80 0x76 0x40 (bytes8 0 0 0 0 0 0 0 0 points)
+    0x53 ∷ 0x54 ∷ 0x4D ∷ 1 ∷ 0 ∷ 0 ∷ 3 ∷ 0 ∷ 0 ∷ 0 ∷ bytes8 0 0 0 0 0 0x80 0x76 0x40 (bytes8 0 0 0 0 0 0 0 0 points)
 
 abbrev rollerFile : List ℕ
 rollerFile =
@@ -91,7 +92,8 @@ roller-opened = refl
 
 pub points-at : (pointAt points 0 ≡ record { reading = 0x0807060504030201; radius = 0x1817161514131211 })
     × (pointAt points 1 ≡ record { reading = 0x2827262524232221; radius = 0x7FF7363534333231 })
-points-at = (refl, refl)
+    × (pointAt points 2 ≡ record { reading = 0x4076D64544434241; radius = 0x5857565554535251 })
+points-at = (refl, refl, refl)
 
 -- ---- [11.5] a file with every fault, and then each mended in the order of the checks; the same cut before its last header byte
 abbrev put : ℕ → ℕ → List ℕ → List ℕ
@@ -125,7 +127,7 @@ staircase = refl
 pub one-fault : map stem
     (put 0 0x54 turnFile ∷ put 1 0x53 turnFile ∷ put 2 0x6D turnFile ∷ put 3 0 turnFile ∷ put 4 1 turnFile ∷ put 5 2 turnFile ∷ put 5 255 turnFile
     ∷ put 6 0xA1 (put 7 0x0F turnFile) ∷ put 6 255 (put 7 255 (put 8 255 (put 9 255 rollerFile)))
-    ∷ put 6 1 turnFile ∷ put 6 3 turnFile ∷ (turnFile ++ (0 ∷ [])) ∷ take 57 turnFile ∷ [] ∷ [])
+    ∷ put 6 2 turnFile ∷ put 6 4 turnFile ∷ (turnFile ++ (0 ∷ [])) ∷ take 73 turnFile ∷ [] ∷ [])
     ≡ refused 10 ∷ refused 10 ∷ refused 10 ∷ refused 11 ∷ refused 11 ∷ refused 12 ∷ refused 12
     ∷ refused 13 ∷ refused 13
     ∷ refused 14 ∷ refused 14 ∷ refused 14 ∷ refused 14 ∷ refused 14 ∷ []
@@ -198,16 +200,21 @@ pub folded-readings : map (λ (r : Folding). foldReading (r .gauge) (r .x)) fold
 unfolding foldReading difference size gap classOf patternOf magnitude first finish remainder
 folded-readings = refl
 
--- [11.10, 11.12] the radius is kept, a NaN's too; a gauge that is refused leaves the point
+-- [11.10, 11.12] the radius is kept, a NaN's too, by a turn and by a roller; a gauge that is refused leaves the point
 pub folded-points : (foldPoint (turn 0x4076800000000000) (pointAt points 1) ≡ record { number = 0; point = record { reading = 0x2827262524232221; radius = 0x7FF7363534333231 } })
-    × (foldPoint (turn 0x8000000000000000) (pointAt points 1) ≡ record { number = 15; point = pointAt points 1 })
-    × (foldPoint (roller 0x4076800000000000 0x7FF0000000000000) (pointAt points 0) ≡ record { number = 15; point = pointAt points 0 })
+    × (foldPoint (turn 0x4076800000000000) (pointAt points 2) ≡ record { number = 0; point = record { reading = 0x4015915110D09040; radius = 0x5857565554535251 } })
+    × (foldPoint (roller 0x4000000000000000 0x4059100000000000) (pointAt points 2) ≡ record { number = 0; point = record { reading = 0x3FF2454443424100; radius = 0x5857565554535251 } })
+    × (foldPoint (roller 0x4000000000000000 0x4059100000000000) (record { reading = 0x7FF0000000000000; radius = 0xFFF4000000000001 })
+    ≡ record { number = 0; point = record { reading = 0x7FF8000000000000; radius = 0xFFF4000000000001 } })
+    × (foldPoint (turn 0x8000000000000000) (pointAt points 2) ≡ record { number = 15; point = pointAt points 2 })
+    × (foldPoint (roller 0x4076800000000000 0x7FF0000000000000) (pointAt points 2) ≡ record { number = 15; point = pointAt points 2 })
 unfolding foldPoint foldReading difference size gap classOf patternOf magnitude first finish remainder
-folded-points = (refl, refl, refl)
+folded-points = (refl, refl, refl, refl, refl, refl)
 
 -- [11.13] what C hands over: a kind above 1 first
 pub handed : (first (handing 0 0x3FF0000000000000 0) ≡ 0) × (first (handing 1 0x3FF0000000000000 0x8000000000000000) ≡ 0)
     × (first (handing 0 0x3FF0000000000000 0x8000000000000000) ≡ 15) × (first (handing 1 0 0) ≡ 15)
     × (first (handing 2 0 0x7FF0000000000000) ≡ 12) × (first (handing 0x100 0x3FF0000000000000 0) ≡ 12)
+    × (first (handing 0x10000 0x3FF0000000000000 0) ≡ 12) × (first (handing 0x80000001 0x3FF0000000000000 0) ≡ 12)
 unfolding first goodFields classOf
-handed = (refl, refl, refl, refl, refl, refl)
+handed = (refl, refl, refl, refl, refl, refl, refl, refl)

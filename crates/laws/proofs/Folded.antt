@@ -1,33 +1,29 @@
 -- The fold of a reading, said in other words: what is divided, what it leaves, and the readings that stay as they are. Assumes nothing.
 use mathlib.Core.Path.{_≡_, refl, ap, _∙_}
 use mathlib.Core.Bool.{Bool, true, false, not, cond, _&&_}
-use Prim.Native.Nat.{ℕ, zero, suc, _-_, _*_, _%_, _^_, _<_}
+use Prim.Native.Nat.{ℕ, zero, suc, _-_, _%_, _<_}
 use native.Mathlib.Nat.{mod-lt, mod-eq-of-lt}
 use native.Mathlib.Omega.{arith}
 use borrow.Author.Tests.{eqb-false, not-true, le-ltb}
 use lib.Dec.{eqb, eqb·suc-zero}
 use lib.IntN.{ℤ, pos, negsuc, natAbs, _-ℤ_}
 use lib.Signed.{ltZ}
-use lib.Ieee.{size}
 use Rattle.digits.proofs.Tests.{clash, and-both}
 use Rattle.definitions.specs.Class.{Value, Class, unsupported, nan, infinite, finite, signed, valueOf}
-use Rattle.definitions.specs.Format.{Format, Regular, Representable, classOf, patternOf, patterns, houseNan, binary64, reach}
-use Rattle.definitions.specs.Numbers.{isUnsupported}
+use Rattle.definitions.specs.Format.{Representable, classOf, patternOf, patterns, houseNan, binary64}
+use Rattle.definitions.specs.Numbers.{first, isUnsupported}
 use Rattle.definitions.specs.declared.Kind.the-variants.{Truncated}
 use Rattle.definitions.specs.Division.{finishBy, finish}
 use Rattle.definitions.specs.Remainder.{Remainder, remainder}
 use Rattle.definitions.specs.Fold.{bad}
-use Rattle.definitions.specs.Round.{Rounded}
-use Rattle.definitions.specs.Difference.{exactDifference, roundedTo, limited, differenceValue, differenceClass, difference}
-use Rattle.definitions.specs.Stem.{Gauge, turn, roller, periodOf, isPositive, good, shifted, foldReading}
+use Rattle.definitions.specs.Difference.{exactDifference, differenceClass, difference}
+use Rattle.definitions.specs.Stem.{Gauge, Point, turn, roller, periodOf, isPositive, good, shifted, foldReading, foldPoint}
 use Rattle.definitions.proofs.Refusals.{supported}
 use Rattle.laws.proofs.Regular.{regular64}
-use Rattle.laws.proofs.Representable.{held-count}
 use Rattle.laws.proofs.RoundTrip.{read-written, read-held, written-read, read-house-nan, house-nan-small}
 use Rattle.laws.proofs.Small.{remainder-small}
-use Rattle.laws.proofs.Range.{exponent-above}
 use Rattle.laws.proofs.Division.{finish-held}
-use Rattle.laws.proofs.Round.{round-exact}
+use Rattle.laws.proofs.Difference.{difference-held}
 use Rattle.laws.proofs.Remainder.{remainder-is}
 
 -- ---- the period
@@ -157,28 +153,13 @@ exact-value : (x y : Value) → valueOf (exactDifference x y) ≡ valueOf x -ℤ
 unfolding exactDifference
 exact-value x y = by-sign (x .negative && not (y .negative)) (valueOf x -ℤ valueOf y)
 
--- what the format holds is not rounded
-module _ (f : Format) (r : Regular f) where
-  rounded-held : (n : ℕ) → Representable f n → roundedTo (f .precision) n ≡ n
-  unfolding roundedTo
-  rounded-held n h =
-      ap (λ (c : Rounded). c .quotient * 2 ^ (size n - f .precision)) (round-exact n (size n - f .precision) (h .digits)) ∙ held-count f n h
-
-  limited-held : (s : Bool) (n : ℕ) → Representable f n → limited f s n ≡ finite (record { negative = s; count = n })
-  unfolding limited
-  limited-held s n h = rw (exponent-above f r n, le-ltb (reach f) (size n) (h .range))
-
-  value-held : (v w : Value) → Representable f (natAbs (valueOf v -ℤ valueOf w)) → differenceValue f v w ≡ finite (exactDifference v w)
-  unfolding differenceValue
-  value-held v w h =
-      let d = exactDifference v w in
-      ap (limited f (d .negative)) (rounded-held (d .count) h) ∙ limited-held (d .negative) (d .count) h
-
-  difference-held : (x y : ℕ) (v w : Value) → classOf f x ≡ finite v → classOf f y ≡ finite w
-      → Representable f (natAbs (valueOf v -ℤ valueOf w)) → classOf f (difference f x y) ≡ finite (exactDifference v w)
-  unfolding difference differenceClass exactDifference
-  difference-held x y v w ex ey h =
-      rw (ex, ey) (ap (λ (c : Class). classOf f (patternOf f c)) (value-held v w h) ∙ read-written f r (exactDifference v w) h)
+difference-read : (x y : ℕ) (v w : Value) → classOf binary64 x ≡ finite v → classOf binary64 y ≡ finite w
+    → Representable binary64 (natAbs (valueOf v -ℤ valueOf w)) → classOf binary64 (difference binary64 x y) ≡ finite (exactDifference v w)
+unfolding difference differenceClass exactDifference
+difference-read x y v w ex ey h =
+    rw (ex, ey)
+    (ap (λ (c : Class). classOf binary64 (patternOf binary64 c)) (difference-held binary64 regular64 v w (exactDifference v w) refl h)
+    ∙ read-written binary64 regular64 (exactDifference v w) h)
 
 -- a pattern stands for a whole number of the smallest place
 pub record Exactly (x : ℕ) (d : ℤ) : Type 0 where
@@ -191,4 +172,26 @@ pub shifted-exact : (p o x : ℕ) (v w : Value) → classOf binary64 x ≡ finit
     → Representable binary64 (natAbs (valueOf v -ℤ valueOf w)) → Exactly (shifted (roller p o) x) (valueOf v -ℤ valueOf w)
 unfolding shifted
 shifted-exact p o x v w ex eo h =
-    record { value = exactDifference v w; is = difference-held binary64 regular64 x o v w ex eo h; exact = exact-value v w }
+    record { value = exactDifference v w; is = difference-read x o v w ex eo h; exact = exact-value v w }
+
+-- ---- the fold of a point
+
+module _ (g : Gauge) (p : Point) where
+  -- [11.10, 11.12] the radius is kept, whatever the gauge
+  pub radius-kept : foldPoint g p .point .radius ≡ p .radius
+  unfolding foldPoint first
+  radius-kept = go (good g)
+    where
+      go : (t : Bool) → (cond (eqb (cond (not t) 15 0) 0) (record { reading = foldReading g (p .reading); radius = p .radius }) p) .radius ≡ p .radius
+      go true = refl
+      go false = refl
+
+  -- [11.10, 11.11] a good gauge folds the reading, with 0
+  pub point-folded : good g ≡ true → foldPoint g p ≡ record { number = 0; point = record { reading = foldReading g (p .reading); radius = p .radius } }
+  unfolding foldPoint first
+  point-folded e = rw e
+
+  -- [11.12] any other leaves the point, with 15
+  pub point-left : good g ≡ false → foldPoint g p ≡ record { number = 15; point = p }
+  unfolding foldPoint first
+  point-left e = rw e

@@ -1,6 +1,6 @@
 -- Stem files, said from the other side: which lists of bytes are accepted, byte for byte, what part is handed back, and which numbers
 -- there are. Assumes nothing.
-use mathlib.Core.Path.{_≡_, refl, sym, _∙_}
+use mathlib.Core.Path.{_≡_, refl, sym, ap, _∙_}
 use mathlib.Core.Logic.{_⊎_, inl, inr}
 use mathlib.Core.Bool.{Bool, true, false, not, cond}
 use mathlib.Core.List.{List, [], _∷_, _++_}
@@ -10,11 +10,11 @@ use native.Mathlib.Omega.{arith}
 use borrow.Author.Tests.{ltb-false, le-ltb, eqb-true, eq-eqb}
 use lib.Dec.{ltb, eqb, lit<, lit≤}
 use lib.ListN.{length, take, drop, length-drop, take-append-drop}
-use lib.Seq.{drop-drop, length-take-le}
+use lib.Seq.{drop-drop, take-add, length-take-le}
 use Rattle.digits.proofs.Tests.{clash, and-both}
 use Rattle.definitions.specs.Numbers.{first}
 use Rattle.definitions.specs.Bytes.{bytesOf, ofBytes, loaded}
-use Rattle.definitions.specs.Stem.{Gauge, turn, roller, gaugeOf, periodOf, good, goodFields, headerLength, pointLength, mark, version, pointLimit, fileMark, fileVersion, fileKind, fileCount, filePeriod, fileOrigin, judging, opened, refused, stem, stemNumber, stemPoints}
+use Rattle.definitions.specs.Stem.{Gauge, turn, roller, gaugeOf, periodOf, good, goodFields, headerLength, pointLength, mark, version, pointLimit, fileMark, fileVersion, fileKind, fileCount, filePeriod, fileOrigin, judging, opened, refused, stem, stemNumber, stemPoints, pointAt, handing}
 use Rattle.laws.proofs.Bytes.{AreBytes, of-bytes, bytes-of, take-bytes, drop-bytes}
 
 -- ---- the claim
@@ -275,3 +275,26 @@ module _ (file : List ℕ) (g : Gauge) (points : List ℕ) (n : ℕ) (r : Row fi
   file-opened =
       let rest : drop headerLength file ≡ points = rw (r .bytes) refl in
       rw (judged file row-passed, kind-read, period-read, origin-read, gauge-back g (r .taken) .0, rest)
+
+-- ---- the points
+
+-- [11.1] the point at a place is the sixteen bytes there, its reading and then its radius
+pub point-bytes : (points : List ℕ) → AreBytes points → (i : ℕ) → pointLength * i + pointLength ≤ length points
+    → bytesOf 8 (pointAt points i .reading) ++ bytesOf 8 (pointAt points i .radius) ≡ take pointLength (drop (pointLength * i) points)
+point-bytes points h i fits =
+    let at = pointLength * i in
+    let field : (j : ℕ) → j + 8 ≤ length points → bytesOf 8 (loaded 8 j points) ≡ take 8 (drop j points) =
+    λ j l. bytes-of 8 (take 8 (drop j points)) (length-take-le 8 (drop j points) (rw (length-drop j points) (omega arith))) (take-bytes 8 (drop j points) (drop-bytes j points h)) in
+    ap (λ (r : List ℕ). r ++ bytesOf 8 (loaded 8 (at + 8) points)) (field at (omega arith))
+    ∙ ap (λ (r : List ℕ). take 8 (drop at points) ++ r) (field (at + 8) (omega arith))
+    ∙ sym (take-add 8 8 (drop at points) ∙ ap (λ (r : List ℕ). take 8 (drop at points) ++ take 8 r) (drop-drop 8 at points))
+
+-- [11.13] what C hands over as a gauge: every kind above 1 is 12, whatever else
+pub handing-number : (kind period origin : ℕ) → first (handing kind period origin) ≡ cond (ltb 1 kind) 12 (cond (goodFields kind period origin) 0 15)
+unfolding first
+handing-number kind period origin = go (ltb 1 kind) (goodFields kind period origin)
+  where
+    go : (t u : Bool) → _≡_ {A = ℕ} (cond t 12 (cond (not u) 15 0)) (cond t 12 (cond u 0 15))
+    go true u = refl
+    go false true = refl
+    go false false = refl

@@ -1,7 +1,7 @@
 -- The fold of a reading, from the remainder that the library told; what it gives passes a float. Assumes nothing.
 use mathlib.Core.Path.{_≡_, refl, sym, ap, _∙_}
-use mathlib.Core.Bool.{Bool, true, false, not, cond, _&&_, _||_}
-use Prim.Native.Nat.{ℕ, _^_, _<_, _≤_}
+use mathlib.Core.Bool.{Bool, true, false, not, cond, _||_}
+use Prim.Native.Nat.{ℕ, _^_, _<_}
 use native.Mathlib.Omega.{arith}
 use lib.Dec.{eqb}
 use lib.Ieee as Ieee
@@ -13,9 +13,9 @@ use Rattle.definitions.specs.Format.{binary64, classOf, houseNan}
 use Rattle.definitions.specs.Numbers.{first, dividing, isUnsupported, isNan, isInfinite, isZero}
 use Rattle.definitions.specs.Remainder.{Remainder, remainder}
 use Rattle.definitions.specs.Fold.{bad}
-use Rattle.definitions.specs.Answers.{refusalNumber, remainderMeaning, joined}
+use Rattle.definitions.specs.Answers.{remainderMeaning, joined}
 use Rattle.definitions.specs.Difference.{difference}
-use Rattle.definitions.specs.Stem.{Gauge, turn, roller, periodOf, isPositive, good, Point, shifted, foldReading, foldPoint}
+use Rattle.definitions.specs.Stem.{Gauge, turn, roller, periodOf, isPositive, good, shifted, foldReading}
 use Rattle.definitions.specs.declared.Kind.the-variants.{Truncated}
 use Rattle.definitions.specs.declared.Pattern.{Pattern}
 use Rattle.definitions.specs.declared.Refusal.{Refusal}
@@ -105,12 +105,3 @@ fold-passed g x = rw (fold-is g x) (go (bad (shifted g x)))
         ≡ cond t (houseNan binary64) (remainder binary64 Truncated (shifted g x) (periodOf g) .value)
     go true = house-passed
     go false = ap (toBits Ieee.binary64) (agrees Ieee.binary64 (shifted g x) (periodOf g)) ∙ sym (agrees-bits Ieee.binary64 (shifted g x) (periodOf g))
-
-pub point-kept : (g : Gauge) (p : Point) → not (good g) ≡ true → foldPoint g p ≡ record { number = 15; point = p }
-unfolding foldPoint first
-point-kept g p e = rw e
-
-pub point-folded : (g : Gauge) (p : Point) → not (good g) ≡ false
-    → foldPoint g p ≡ record { number = 0; point = record { reading = foldReading g (p .reading); radius = p .radius } }
-unfolding foldPoint first
-point-folded g p e = rw e
