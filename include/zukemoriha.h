@@ -6,7 +6,7 @@
  *
  * Rules for every function
  *
- *   - Every bit pattern is taken. A function always returns one of the numbers 0 to 15 below, and never traps.
+ *   - Every bit pattern is taken. A function always returns one of the numbers 0 to 15 below.
  *   - 0, 1 and 7 are answers: everything that the function promises has been written. All other numbers are refusals: what was lent is
  *     as it was, byte for byte, *value, *quotient, *marked and the block included.
  *   - Where several refusals apply, the first in the order 9, 6, 2, 3, 4, 5, 8 is returned; 7 comes after them. Stem files have an order
@@ -15,9 +15,9 @@
  *     FPREM1).
  *   - The host's duty, which no function can check: each pointer is not null, is aligned for its type, and points to memory that holds
  *     what it is lent for, also where a length is 0; and no two lent places overlap.
- *   - No function keeps a pointer, asks for memory or has state: calls from many threads do not meet. Values are computed in integers, so
- *     no rounding mode, flushing of denormals or unmasked exception of the host changes an answer, with one exception: zk_stem_open and
- *     zk_stem_fold hold values as doubles for a moment, and would set off an unmasked denormal-operand exception.
+ *   - No function keeps a pointer, asks for memory or has state: calls from many threads do not meet. Values are computed in integers: no
+ *     rounding mode and no flushing of denormals changes an answer, and no function traps, whatever exceptions the host has unmasked, but
+ *     for one: zk_stem_open and zk_stem_fold compare doubles with themselves, which is a denormal-operand exception for a denormal.
  *
  * The archive is compiled for x86-64 Linux.
  *
@@ -177,7 +177,7 @@ uint8_t zk_stem_open(const uint8_t *file, size_t length, uint32_t *kind, uint64_
  * Folds one point in place: *reading becomes its truncated remainder by the period. From a roller's reading the origin is subtracted first,
  * rounded once, ties to even. A reading that is NaN or infinite, or is infinite after that subtraction, becomes ZK_HOUSE_NAN64, with 0.
  * A zero remainder has the sign of what was divided. The radius of a point stays as it is, so it is not passed.
- * Returns 0, or refuses with 12 (a kind above 1), or 15 (a gauge that no file gives, a turn with an origin other than 0 among them).
+ * Returns 0, or refuses with 12 (a kind above 1), else with 15 (a gauge that no file gives, a turn with an origin other than 0 among them).
  */
 uint8_t zk_stem_fold(uint32_t kind, uint64_t period, uint64_t origin, uint64_t *reading);
 
