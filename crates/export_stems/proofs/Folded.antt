@@ -12,10 +12,10 @@ use Rattle.definitions.specs.declared.Kind.the-variants.{Truncated}
 use Rattle.definitions.specs.Remainder.{remainderOf}
 use Rattle.definitions.specs.Difference.{differenceClass, difference}
 use Rattle.definitions.specs.Stem.{Gauge, turn, roller, Point, FoldedPoint, gaugeOf, periodOf, isPositive, good, goodFields, shifted, foldReading, foldPoint, handing}
+use Rattle.laws.proofs.Folded.{point-folded, point-left}
 use Rattle.floats.proofs.Passed.{passed, class-passed}
 use Rattle.digits.proofs.Tests.{clash}
 use Rattle.gauges.proofs.Judged.{and-false, and-true, good-held}
-use Rattle.points.proofs.Folded.{point-kept, point-folded}
 use Rattle.gauges.specs.Held.{gaugeHeld, gaugeBits}
 
 -- a difference depends on the classes of its operands alone
@@ -70,8 +70,8 @@ module _ (k p o : ℕ) where
 
 -- the reading of a point that is folded
 pub reading-told : (g : Gauge) (q : Point) → foldPoint g q .number ≡ 0 → foldPoint g q .point .reading ≡ foldReading g (q .reading)
-reading-told g q z = go (not (good g)) refl
+reading-told g q z = go (good g) refl
   where
-    go : (t : Bool) → not (good g) ≡ t → foldPoint g q .point .reading ≡ foldReading g (q .reading)
-    go true e = let r = ap (λ (f : FoldedPoint). f .number) (point-kept g q e) in clash (omega arith)
-    go false e = ap (λ (f : FoldedPoint). f .point .reading) (point-folded g q e)
+    go : (t : Bool) → good g ≡ t → foldPoint g q .point .reading ≡ foldReading g (q .reading)
+    go true e = ap (λ (f : FoldedPoint). f .point .reading) (point-folded g q e)
+    go false e = let r = ap (λ (f : FoldedPoint). f .number) (point-left g q e) in clash (omega arith)
