@@ -12,12 +12,13 @@
  *   - Where several refusals apply, the first in the order 9, 6, 2, 3, 4, 5, 8 is returned; 7 comes after them. Stem files have an order
  *     of their own (zk_stem_open).
  *   - kind: 0 is the truncated remainder (C's fmod, the processor's FPREM), any other number is the nearest one (C's remainder, IEEE 754,
- *     FPREM1).
+ *     FPREM1). The kind of a stem file is another thing: ZK_TURN or ZK_ROLLER, and no other number.
  *   - The host's duty, which no function can check: each pointer is not null, is aligned for its type, and points to memory that holds
  *     what it is lent for, also where a length is 0; and no two lent places overlap.
  *   - No function keeps a pointer, asks for memory or has state: calls from many threads do not meet. Values are computed in integers: no
- *     rounding mode and no flushing of denormals changes an answer, and no function traps, whatever exceptions the host has unmasked, but
- *     for one: zk_stem_open and zk_stem_fold compare doubles with themselves, which is a denormal-operand exception for a denormal.
+ *     rounding mode and no flushing of denormals changes an answer, no status flag is touched, and no function traps, whatever exceptions
+ *     the host has unmasked. One thing is left: zk_stem_open and zk_stem_fold compare doubles with themselves. Where one is a denormal,
+ *     that sets the processor's denormal-operand flag, and traps if the host has unmasked this exception.
  *
  * The archive is compiled for x86-64 Linux.
  *
@@ -41,16 +42,16 @@ extern "C" {
 
 /* What every function returns. */
 enum zk_number {
-    ZK_FINISHED = 0,     /* the result is there */
-    ZK_PARTIAL = 1,      /* step only: the step was partial, its value is there, another step is needed */
-    ZK_UNSUPPORTED = 2,  /* an x87 operand is no number of the format (see zk_rem80) */
-    ZK_NAN = 3,          /* an operand is NaN */
-    ZK_INFINITE = 4,     /* the dividend is infinite; or an infinity was to be split */
-    ZK_ZERO_DIVISOR = 5, /* the divisor is zero */
-    ZK_BAD_SIZE = 6,     /* step and run: the size is not from 32 to 63 */
-    ZK_SPENT = 7,        /* run only: the budget is spent, the value reached is there; with budget 0 it is the dividend */
-    ZK_ZERO_SPLIT = 8,   /* a zero was to be split */
-    ZK_BAD_LENGTH = 9,   /* lists of unequal length, or a block that is not ZK_BLOCK_LENGTH bytes long */
+    ZK_FINISHED = 0,      /* the result is there */
+    ZK_PARTIAL = 1,       /* step only: the step was partial, its value is there, another step is needed */
+    ZK_UNSUPPORTED = 2,   /* an x87 operand is no number of the format (see zk_rem80) */
+    ZK_NAN = 3,           /* an operand is NaN */
+    ZK_INFINITE = 4,      /* the dividend is infinite; or an infinity was to be split */
+    ZK_ZERO_DIVISOR = 5,  /* the divisor is zero */
+    ZK_BAD_SIZE = 6,      /* step and run: the size is not from 32 to 63 */
+    ZK_SPENT = 7,         /* run only: the budget is spent, the value reached is there; with budget 0 it is the dividend */
+    ZK_ZERO_SPLIT = 8,    /* a zero was to be split */
+    ZK_BAD_LENGTH = 9,    /* lists of unequal length, or a block that is not ZK_BLOCK_LENGTH bytes long */
     ZK_STEM_MARK = 10,    /* stem files: they do not begin with STM */
     ZK_STEM_VERSION = 11, /* the version is not 1 */
     ZK_STEM_KIND = 12,    /* the kind is neither ZK_TURN nor ZK_ROLLER */
@@ -167,16 +168,17 @@ uint8_t zk_fold64(const uint64_t *x, size_t nx, uint64_t *results, size_t nr, ui
 
 /*
  * Judges a whole file. On 0 *kind, *period and *origin get the gauge (the origin of a turn is 0), *start the place where the points begin
- * and *count how many there are: they are file[*start] to file[*start + 16 * *count - 1]. The count is compared with the length and with
- * nothing else: no byte past the length is read. Refuses with the first that applies of 14 (shorter than 26 bytes), 10, 11, 12, 13,
+ * and *count how many there are: they are file[*start] to file[*start + 16 * *count - 1]. The count is compared, with ZK_STEM_MOST and
+ * with the length, and used for nothing else: no byte past the length is read. Refuses with the first that applies of 14 (shorter than 26 bytes), 10, 11, 12, 13,
  * 14 (the length is not 26 + 16 * count) and 15, and then writes nothing.
  */
 uint8_t zk_stem_open(const uint8_t *file, size_t length, uint32_t *kind, uint64_t *period, uint64_t *origin, size_t *start, size_t *count);
 
 /*
- * Folds one point in place: *reading becomes its truncated remainder by the period. From a roller's reading the origin is subtracted first,
- * rounded once, ties to even. A reading that is NaN or infinite, or is infinite after that subtraction, becomes ZK_HOUSE_NAN64, with 0.
- * A zero remainder has the sign of what was divided. The radius of a point stays as it is, so it is not passed.
+ * Folds one point in place: *reading becomes its truncated remainder by the period, below the period in magnitude and with the sign of
+ * what was divided, also where it is zero. From a roller's reading the origin is subtracted first, rounded once, ties to even. A reading
+ * that is NaN or infinite, or is infinite after that subtraction, becomes ZK_HOUSE_NAN64, and the call returns 0 too.
+ * The radius of a point stays as it is, so it is not passed.
  * Returns 0, or refuses with 12 (a kind above 1), else with 15 (a gauge that no file gives, a turn with an origin other than 0 among them).
  */
 uint8_t zk_stem_fold(uint32_t kind, uint64_t period, uint64_t origin, uint64_t *reading);

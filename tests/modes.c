@@ -1,7 +1,7 @@
 /*
  * Every exported function under other floating-point environments: each rounding mode, denormals flushed and taken for zero, other
  * precisions and roundings of the x87 unit, then all of them once more with exceptions unmasked. The answers are those that the default
- * environment gave before, nothing traps, and the environment is left as it was. The denormal-operand exception stays masked: the header
+ * environment gave before, nothing traps, and the modes are left as they were. The denormal-operand exception stays masked: the header
  * says that zk_stem_open and zk_stem_fold may set it off. x86-64 only.
  *
  *   modes [QUESTIONS [SEED]]

@@ -1,4 +1,4 @@
--- The numbers 0 to 9, and the checks that give them. Definitions only.
+-- Numbers, and the checks that give them. Definitions only.
 use Prim.Native.Nat.{ℕ}
 use mathlib.Core.Bool.{Bool, true, false, cond, _||_}
 use mathlib.Core.List.{List, [], _∷_}
@@ -18,7 +18,7 @@ unfoldable pub first : List Check → ℕ
 first [] = 0
 first (c ∷ cs) = cond (c .test) (c .number) (first cs)
 
--- [7.3] the order of all checks; every list of them follows it (`in-order`)
+-- [7.3] the order of the checks of operations on patterns; every list of theirs follows it (`in-order`)
 abbrev pub fixedOrder : List ℕ
 fixedOrder = 9 ∷ 6 ∷ 2 ∷ 3 ∷ 4 ∷ 5 ∷ 8 ∷ 7 ∷ 1 ∷ []
 

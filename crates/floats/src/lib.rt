@@ -1,6 +1,5 @@
 // Between binary64 patterns and the language's floats. A float is moved, and asked whether it is a NaN; nothing is computed with it, so
-// that no rounding mode, flushing or unmasked exception of a host has a say. A NaN's own bits do not pass a float: it comes back as the
-// house NaN.
+// that no rounding mode and no flushing of a host has a say. A NaN's own bits do not pass a float: it comes back as the house NaN.
 ghost use mathlib.Core.Path.{_≡_};
 ghost use lib.Ieee.{binary64, ofBits, toBits};
 

@@ -1,4 +1,4 @@
-// Stem files: judged, opened, and their points taken out one by one. The count is compared with the length and with nothing else.
+// Stem files: judged, opened, and their points taken out one by one. The count is compared, and used for nothing else.
 use floats::float_of;
 use gauges::BAD_GAUGE;
 use gauges::Gauge;

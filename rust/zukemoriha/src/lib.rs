@@ -24,8 +24,8 @@
 //!   function is proved, for every bit pattern, to give what its definition says. This
 //!   crate is a thin layer over the archive and is not proved: it hands over operands, and turns
 //!   numbers into enums.
-//! - **No state.** No floating-point arithmetic, rounding mode, status word or heap: calls from
-//!   many threads do not meet.
+//! - **No state.** No floating-point arithmetic, rounding mode or heap: calls from many threads do
+//!   not meet. A denormal in a stem file's gauge or reading sets the processor's flag for it.
 //!
 //! # Where to look
 //!

@@ -141,9 +141,9 @@ impl fmt::Display for Refusal {
             Refusal::StemMark => "the stem file does not begin with STM",
             Refusal::StemVersion => "the version of the stem file is not 1",
             Refusal::StemKind => "the gauge is neither a turn nor a roller",
-            Refusal::StemCount => "the stem file has more than 4000 points",
-            Refusal::StemLength => "the stem file is not as long as its header says",
-            Refusal::StemGauge => "the period or the origin of the gauge is out of range",
+            Refusal::StemCount => "the stem file declares more than 4000 points",
+            Refusal::StemLength => "the stem file has no whole header, or not the length that its count asks for",
+            Refusal::StemGauge => "the period or the origin is not one that a stem file may have",
         })
     }
 }

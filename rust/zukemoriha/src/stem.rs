@@ -175,7 +175,7 @@ impl<'a> Stem<'a> {
 
     /// Judges a whole file.
     ///
-    /// The count is compared with the length and used for nothing else.
+    /// The count is compared, with the limit and with the length, and used for nothing else.
     ///
     /// # Errors
     ///
