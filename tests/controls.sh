@@ -247,6 +247,7 @@ stems 1     | none                                       | has no point
 sanitized 2000 | stem-open-start-one-point-too-far       | heap-buffer-overflow
 modes 800   | rem32-last-bit-as-the-rounding-mode-says   | ^remainder: another answer
 modes 8000  | rem64-zero-divisor-is-divided-by           | ^remainder: a trap
+modes 8000  | rem64-zero-divisor-is-divided-by           | ^remainder: a flag is raised
 modes 800   | rem16-leaves-another-precision             | ^remainder: another environment is left
 modes 800   | step-c0-lost-in-another-precision          | ^step: another answer
 modes 800   | run-bits-as-the-control-word-rounds        | ^run: another answer

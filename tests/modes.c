@@ -1,7 +1,7 @@
 /*
  * Every exported function under other floating-point environments: each rounding mode, denormals flushed and taken for zero, other
  * precisions and roundings of the x87 unit, then all of them once more with exceptions unmasked. The answers are those that the default
- * environment gave before, nothing traps, and the modes are left as they were. The denormal-operand exception stays masked: the header
+ * environment gave before, nothing traps, the modes are left as they were, and no flag is raised. The denormal-operand exception stays masked: the header
  * says that zk_stem_open and zk_stem_fold may set it off. x86-64 only.
  *
  *   modes [QUESTIONS [SEED]]
@@ -142,6 +142,7 @@ static struct question any_question(int operation, uint64_t *state) {
 struct environment {
     unsigned mxcsr;
     uint16_t control;
+    unsigned flags; /* what has happened, of both units */
 };
 
 enum { ROUNDINGS = 4, FLUSHINGS = 4, PRECISIONS = 3, ENVIRONMENTS = 48 };
@@ -155,6 +156,7 @@ static struct environment environment_of(unsigned i, unsigned masks) {
     struct environment e;
     e.mxcsr = masks << 7 | i % ROUNDINGS << 13 | flushings[i / ROUNDINGS % FLUSHINGS];
     e.control = (uint16_t)(masks | 0x40 | i % ROUNDINGS << 10 | precisions[i / ROUNDINGS % PRECISIONS]);
+    e.flags = 0;
     return e;
 }
 
@@ -164,12 +166,18 @@ static void set(struct environment e) {
     _mm_setcsr(e.mxcsr);
 }
 
-/* Without the flags that say what has happened, which a call may raise. */
 static struct environment present(void) {
     struct environment e;
-    __asm__ volatile("fnstcw %0" : "=m"(e.control));
+    uint16_t status;
+    __asm__ volatile("fnstcw %0\n\tfnstsw %1" : "=m"(e.control), "=m"(status));
+    e.flags = (_mm_getcsr() | status) & 0x3F;
     e.mxcsr = _mm_getcsr() & ~0x3Fu;
     return e;
+}
+
+/* The flag of denormal operands is the one that the header allows, to the calls that hold a double. */
+static unsigned allowed(const struct question *q) {
+    return q->operation == OPEN || q->operation == STEM_FOLD ? UNMASKED : 0;
 }
 
 static sigjmp_buf trapped;
@@ -214,6 +222,17 @@ static void compare(struct environment e, struct environment usual, const struct
         tell("another environment is left", e, q);
 }
 
+/* What has happened in a call, with all exceptions masked. */
+static void look_at_flags(struct environment usual, const struct question *q) {
+    static struct answer got;
+    static struct environment after;
+    struct environment e = environment_of(0, ALL_MASKED);
+    ask_in(e, q, &got, &after);
+    set(usual);
+    if (after.flags & ~allowed(q))
+        tell("a flag is raised", e, q);
+}
+
 /* A number that no question has would leave a refusal untried: it counts as a difference. */
 static void print_numbers(const struct answer *answers, uint64_t cases) {
     uint64_t seen[16] = {0}, i;
@@ -251,6 +270,9 @@ int main(int argc, char **argv) {
         for (i = 0; i < cases; i++)
             compare(environment_of(e, e < ENVIRONMENTS ? ALL_MASKED : UNMASKED), usual, &questions[i], &answers[i]);
     }
+    next_part();
+    for (i = 0; i < cases; i++)
+        look_at_flags(usual, &questions[i]);
     print_numbers(answers, cases);
     printf("each in %d environments, with exceptions masked and unmasked\n", ENVIRONMENTS);
     free(questions);
