@@ -1,17 +1,18 @@
 -- The fold of a reading, said in other words: what is divided, what it leaves, and the readings that stay as they are. Assumes nothing.
 use mathlib.Core.Path.{_≡_, refl, ap, _∙_}
-use mathlib.Core.Bool.{Bool, true, false, not, cond, _&&_}
-use Prim.Native.Nat.{ℕ, zero, suc, _-_, _%_, _<_}
-use native.Mathlib.Nat.{mod-lt, mod-eq-of-lt}
+use mathlib.Core.Bool.{Bool, true, false, not, cond, _&&_, _||_}
+use Prim.Native.Nat.{ℕ, zero, suc, _+_, _-_, _*_, _/_, _%_, _^_, _<_}
+use native.Mathlib.Nat.{mod-lt, mod-eq-of-lt, mul-pos}
+use lib.Pow.{pow-pos}
 use native.Mathlib.Omega.{arith}
-use borrow.Author.Tests.{eqb-false, not-true, le-ltb}
-use lib.Dec.{eqb, eqb·suc-zero}
+use borrow.Author.Tests.{ltb-true, ltb-false, leb-true, leb-false, eqb-true, eqb-false, not-true, le-ltb, eq-eqb, ne-eqb}
+use lib.Dec.{leb, ltb, eqb, eqb·suc-zero}
 use lib.IntN.{ℤ, pos, negsuc, natAbs, _-ℤ_}
 use lib.Signed.{ltZ}
-use Rattle.digits.proofs.Tests.{clash, and-both}
+use Rattle.digits.proofs.Tests.{clash, and-both, not-zero}
 use Rattle.definitions.specs.Class.{Value, Class, unsupported, nan, infinite, finite, signed, valueOf}
 use Rattle.definitions.specs.Format.{Representable, classOf, patternOf, patterns, houseNan, binary64}
-use Rattle.definitions.specs.Numbers.{first, isUnsupported}
+use Rattle.definitions.specs.Numbers.{first, isUnsupported, isNan, isInfinite}
 use Rattle.definitions.specs.declared.Kind.the-variants.{Truncated}
 use Rattle.definitions.specs.Division.{finishBy, finish}
 use Rattle.definitions.specs.Remainder.{Remainder, remainder}
@@ -51,6 +52,79 @@ pub good-period : (g : Gauge) → good g ≡ true → Period g
 unfolding good
 good-period (turn p) e = positive-period (turn p) e
 good-period (roller p o) e = positive-period (roller p o) (and-both (isPositive (classOf binary64 p)) (not (bad o)) e .0)
+
+-- [11.4] the same by the patterns: those of periods lie between 0 and infinity's, and without its sign that of an origin is below infinity's
+abbrev infinity64 : ℕ
+infinity64 = 0x7FF0000000000000
+
+not-both : (e s : ℕ) → (e ≡ 0 → s ≡ 0 → ⊥) → eqb e 0 && eqb s 0 ≡ false
+not-both e s h = go (eqb e 0) (eqb s 0) refl refl
+  where
+    go : (t u : Bool) → eqb e 0 ≡ t → eqb s 0 ≡ u → t && u ≡ false
+    go true true p q = absurd (h (eqb-true e 0 p) (eqb-true s 0 q))
+    go true false p q = refl
+    go false u p q = refl
+
+-- what the fields of a pattern say
+fields-positive : (n top low z : Bool) (e s : ℕ) → eqb s 0 ≡ z
+    → isPositive (cond top (cond z (infinite n) nan) (finite (record { negative = n; count = cond low s ((2 ^ 52 + s) * 2 ^ (e - 1)) })))
+    ≡ not n && (not top && not (low && z))
+fields-positive true true low true e s q = refl
+fields-positive true true low false e s q = refl
+fields-positive true false low z e s q = refl
+fields-positive false true low true e s q = refl
+fields-positive false true low false e s q = refl
+fields-positive false false true z e s q = ap not q
+fields-positive false false false z e s q =
+    let some : 0 < 2 ^ 52 + s = omega arith in ap not (not-zero ((2 ^ 52 + s) * 2 ^ (e - 1)) (mul-pos some (pow-pos (e - 1))))
+
+pub period-pattern : (b : ℕ) → b < 2 ^ 64 → isPositive (classOf binary64 b) ≡ ltb 0 b && ltb b infinity64
+unfolding classOf
+period-pattern b h =
+    let e = b / 2 ^ 52 % 2048 in
+    let s = b % 2 ^ 52 in
+    fields-positive (leb (2 ^ 63) b) (eqb e 2047) (eqb e 0) (eqb s 0) e s refl ∙ go (leb (2 ^ 63) b) (ltb b infinity64) (ltb 0 b) refl refl refl
+  where
+    go : (t u v : Bool) → leb (2 ^ 63) b ≡ t → ltb b infinity64 ≡ u → ltb 0 b ≡ v
+        → not t && (not (eqb (b / 2 ^ 52 % 2048) 2047) && not (eqb (b / 2 ^ 52 % 2048) 0 && eqb (b % 2 ^ 52) 0)) ≡ v && u
+    go true true v p q r = let l = leb-true (2 ^ 63) b p in let m = ltb-true b infinity64 q in clash (omega arith)
+    go true false true p q r = refl
+    go true false false p q r = refl
+    go false true true p q r =
+        let l = leb-false (2 ^ 63) b p in
+        let m = ltb-true b infinity64 q in
+        let k = ltb-true 0 b r in
+        rw (ne-eqb (b / 2 ^ 52 % 2048) 2047 (λ z. omega arith)) (ap not (not-both (b / 2 ^ 52 % 2048) (b % 2 ^ 52) (λ y z. omega arith)))
+    go false true false p q r = let l = ltb-false 0 b r in let z : b ≡ 0 = omega arith in rw z refl
+    go false false true p q r =
+        let l = leb-false (2 ^ 63) b p in
+        let m = ltb-false b infinity64 q in
+        rw (eq-eqb (b / 2 ^ 52 % 2048) 2047 (omega arith)) refl
+    go false false false p q r = let l = ltb-false 0 b r in let m = ltb-false b infinity64 q in clash (omega arith)
+
+fields-bad : (top z : Bool) (n : Bool) (v : Value) → (let c = cond top (cond z (infinite n) nan) (finite v) in isNan c || isInfinite c) ≡ top
+fields-bad true true n v = refl
+fields-bad true false n v = refl
+fields-bad false z n v = refl
+
+pub origin-pattern : (b : ℕ) → bad b ≡ leb infinity64 (b % 2 ^ 63)
+unfolding classOf
+origin-pattern b =
+    let e = b / 2 ^ 52 % 2048 in
+    fields-bad (eqb e 2047) (eqb (b % 2 ^ 52) 0) (leb (2 ^ 63) b) _ ∙ go (leb infinity64 (b % 2 ^ 63)) refl
+  where
+    go : (t : Bool) → leb infinity64 (b % 2 ^ 63) ≡ t → eqb (b / 2 ^ 52 % 2048) 2047 ≡ t
+    go true p = let l = leb-true infinity64 (b % 2 ^ 63) p in eq-eqb (b / 2 ^ 52 % 2048) 2047 (omega arith)
+    go false p = let l = leb-false infinity64 (b % 2 ^ 63) p in ne-eqb (b / 2 ^ 52 % 2048) 2047 (λ z. omega arith)
+
+-- [11.4] so a gauge is good by its patterns
+pub good-turn : (p : ℕ) → p < 2 ^ 64 → good (turn p) ≡ ltb 0 p && ltb p infinity64
+unfolding good
+good-turn p h = period-pattern p h
+
+pub good-roller : (p o : ℕ) → p < 2 ^ 64 → good (roller p o) ≡ (ltb 0 p && ltb p infinity64) && not (leb infinity64 (o % 2 ^ 63))
+unfolding good
+good-roller p o h = rw (period-pattern p h, origin-pattern o)
 
 -- ---- the fold
 
@@ -160,6 +234,11 @@ difference-read x y v w ex ey h =
     rw (ex, ey)
     (ap (λ (c : Class). classOf binary64 (patternOf binary64 c)) (difference-held binary64 regular64 v w (exactDifference v w) refl h)
     ∙ read-written binary64 regular64 (exactDifference v w) h)
+
+-- [11.9, 11.10] a roller folds as a turn of its period would fold the difference, whatever the reading
+pub fold-roller : (p o x : ℕ) → foldReading (roller p o) x ≡ foldReading (turn p) (difference binary64 x o)
+unfolding foldReading shifted
+fold-roller p o x = refl
 
 -- a pattern stands for a whole number of the smallest place
 pub record Exactly (x : ℕ) (d : ℤ) : Type 0 where

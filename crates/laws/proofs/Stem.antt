@@ -276,6 +276,35 @@ module _ (file : List ℕ) (g : Gauge) (points : List ℕ) (n : ℕ) (r : Row fi
       let rest : drop headerLength file ≡ points = rw (r .bytes) refl in
       rw (judged file row-passed, kind-read, period-read, origin-read, gauge-back g (r .taken) .0, rest)
 
+-- [11.5] the number of a file, by its bytes alone
+pub file-number : (file : List ℕ) → stemNumber (stem file)
+    ≡ cond (ltb (length file) 26) 14
+    (cond (eqb (loaded 3 0 file) 0x4D5453)
+    (cond (eqb (loaded 2 3 file) 1)
+    (cond (ltb 1 (loaded 1 5 file)) 12
+    (cond (ltb 4000 (loaded 4 6 file)) 13
+    (cond (eqb (length file) (26 + 16 * loaded 4 6 file))
+    (cond (goodFields (loaded 1 5 file) (loaded 8 10 file) (loaded 8 18 file)) 0 15)
+    14)))
+    11)
+    10)
+unfolding first
+file-number file =
+    stem-number file
+    ∙ go (ltb (length file) 26) (eqb (loaded 3 0 file) 0x4D5453) (eqb (loaded 2 3 file) 1) (ltb 1 (loaded 1 5 file)) (ltb 4000 (loaded 4 6 file)) (eqb (length file) (26 + 16 * loaded 4 6 file)) (goodFields (loaded 1 5 file) (loaded 8 10 file) (loaded 8 18 file))
+  where
+    go : (a b c d e f g : Bool)
+        → _≡_ {A = ℕ} (cond a 14 (cond (not b) 10 (cond (not c) 11 (cond d 12 (cond e 13 (cond (not f) 14 (cond (not g) 15 0)))))))
+        (cond a 14 (cond b (cond c (cond d 12 (cond e 13 (cond f (cond g 0 15) 14))) 11) 10))
+    go true b c d e f g = refl
+    go false false c d e f g = refl
+    go false true false d e f g = refl
+    go false true true true e f g = refl
+    go false true true false true f g = refl
+    go false true true false false false g = refl
+    go false true true false false true true = refl
+    go false true true false false true false = refl
+
 -- ---- the points
 
 -- [11.1] the point at a place is the sixteen bytes there, its reading and then its radius

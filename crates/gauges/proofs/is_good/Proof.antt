@@ -43,7 +43,7 @@ returns-2 c =
     let q = c .before .before .before in
     let k = q .before .before .before in
     c .is-finite .ensures
-    ∙ rw (roller-good (k .before .before .args .gauge) _ _ (k .gauge2 .given .1), ← c .before .pattern-of3 .ensures, ← q .before .pattern-of2 .ensures, ← q .is-positive2 .ensures, c .before .before .if1 .taken)
+    ∙ rw (roller-good (k .before .before .args .gauge) _ _ (k .gauge2 .given .1), ← q .before .pattern-of2 .ensures, ← q .is-positive2 .ensures, c .before .before .if1 .taken, ← c .before .pattern-of3 .ensures)
 
 returns-3 : tie.Need-returns-3
 returns-3 c =
