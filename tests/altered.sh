@@ -43,7 +43,11 @@ code() {
 
 code 'double twice(double x) { return x + x; }' 'computes by addsd$'
 code 'long double twice(long double x) { return x + x; }' 'computes by f'
+code 'int is_nan(double x) { return x != x; }' 'computes by ucomisd$'
+code 'long ask(void) { long r; __asm__ volatile("syscall" : "=a"(r) : "0"(12L) : "rcx", "r11", "memory"); return r; }' 'computes by syscall$'
 code 'void *malloc(unsigned long); void *room(unsigned long n) { return malloc(n); }' '^asks for malloc$'
+code 'static int calls; int next(void) { return ++calls; }' '^keeps data in .bss$'
+code '' '^has no code$'
 
 cp examples/*.out "$folder/stored"
 passes examples stored="$folder/stored"

@@ -219,7 +219,10 @@ stems 2000  | stem-open-mark-before-length               | ^faults together: the
 stems 2000  | stem-open-version-before-mark              | ^faults together: the number
 stems 2000  | stem-open-kind-before-version              | ^faults together: the number
 stems 2000  | stem-open-gauge-before-count               | ^faults together: the number
+stems 2000  | stem-open-any-mark-before-many-points      | ^a byte before many points: the number
 stems 2000  | stem-open-length-cut-to-32-bits            | ^a long file: the number
+stems 2000  | stem-open-refusal-writes-the-start         | ^a long file: an output is touched
+stems 2000  | stem-fold-kind-cut-to-24-bits              | ^a class of point: .*
 stems 99999 | stem-open-some-denormals-refused           | ^a random file: the number
 stems 2000  | stem-open-asks-for-memory                  | ^little memory: the number
 stems 2000  | stem-open-keeps-memory                     | ^little memory: the process has grown

@@ -431,6 +431,8 @@ static size_t made_good(uint8_t *file, size_t length) {
         file[0] &= 0xDF, file[1] &= 0xDF, file[2] &= 0xDF;
     if (fault("stem-open-two-letters"))
         file[2] = 'M';
+    if (fault("stem-open-any-mark-before-many-points") && length >= 26 + 16 * 8)
+        memcpy(file, "STM", 3);
     if (fault("stem-open-version-of-one-byte"))
         file[4] = 0;
     if (fault("stem-open-kind-is-one-bit"))
@@ -603,6 +605,8 @@ uint8_t zk_stem_fold(uint32_t kind, uint64_t period, uint64_t origin, uint64_t *
     int is_finite = (before & infinity64) != infinity64;
     if (fault("stem-fold-kind-cut-to-a-byte"))
         kind &= 255;
+    if (fault("stem-fold-kind-cut-to-24-bits"))
+        kind &= 0xFFFFFF;
     if (fault("stem-fold-gauge-before-kind") && kind > 1 && period == 0)
         return ZK_STEM_GAUGE;
     if (fault("stem-fold-turn-has-an-origin") && kind == ZK_TURN)

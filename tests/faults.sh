@@ -17,7 +17,7 @@ c_only='rem16-refusal-writes rem64-refusal-writes scale80-refusal-writes split64
     step-length-cut-to-32-bits run-length-cut-to-32-bits fold-lengths-compared-in-32-bits
     stem-open-refusal-writes-the-count stem-open-refusal-writes-the-kind stem-open-refusal-writes-the-start
     stem-open-writes-behind-the-kind stem-fold-refusal-writes stem-fold-writes-the-radius stem-open-file-written
-    stem-fold-kind-cut-to-a-byte stem-fold-gauge-before-kind stem-fold-turn-has-an-origin stem-open-length-cut-to-32-bits
+    stem-fold-kind-cut-to-a-byte stem-fold-kind-cut-to-24-bits stem-fold-gauge-before-kind stem-fold-turn-has-an-origin stem-open-length-cut-to-32-bits
     stem-open-reads-a-byte-more stem-open-reads-a-byte-before stem-open-reads-26-bytes-of-any-file
     stem-open-reads-the-last-point-of-the-count stem-open-asks-for-memory stem-open-keeps-memory
     rem32-last-bit-as-the-rounding-mode-says rem64-zero-divisor-is-divided-by rem16-leaves-another-precision

@@ -1,8 +1,8 @@
 /*
  * Every exported function under other floating-point environments: each rounding mode, denormals flushed and taken for zero, other
  * precisions and roundings of the x87 unit, then all of them once more with exceptions unmasked. The answers are those that the default
- * environment gave before, nothing traps, the modes are left as they were, and no flag is raised. The denormal-operand exception stays masked: the header
- * says that zk_stem_open and zk_stem_fold may set it off. x86-64 only.
+ * environment gave before, nothing traps, the modes are left as they were, and no flag is raised. The denormal-operand exception is left to
+ * zk_stem_open and zk_stem_fold, of which the header says that they may set it off. x86-64 only.
  *
  *   modes [QUESTIONS [SEED]]
  */
@@ -148,7 +148,7 @@ struct environment {
 enum { ROUNDINGS = 4, FLUSHINGS = 4, PRECISIONS = 3, ENVIRONMENTS = 48 };
 
 /* The masks are bits 0 to 5 of the x87 unit's control word and bits 7 to 12 of MXCSR; the second of each is the denormal operand's. */
-enum { ALL_MASKED = 0x3F, UNMASKED = 0x02 };
+enum { ALL_MASKED = 0x3F, DENORMAL = 0x02 };
 
 /* Every rounding, the same in both units, by every flushing, by every precision of the x87 unit. */
 static struct environment environment_of(unsigned i, unsigned masks) {
@@ -175,9 +175,9 @@ static struct environment present(void) {
     return e;
 }
 
-/* The flag of denormal operands is the one that the header allows, to the calls that hold a double. */
+/* The exception of denormal operands is the one that the header allows, to the calls that hold a double: for them it stays masked. */
 static unsigned allowed(const struct question *q) {
-    return q->operation == OPEN || q->operation == STEM_FOLD ? UNMASKED : 0;
+    return q->operation == OPEN || q->operation == STEM_FOLD ? DENORMAL : 0;
 }
 
 static sigjmp_buf trapped;
@@ -268,7 +268,7 @@ int main(int argc, char **argv) {
         if (e == ENVIRONMENTS)
             next_part();
         for (i = 0; i < cases; i++)
-            compare(environment_of(e, e < ENVIRONMENTS ? ALL_MASKED : UNMASKED), usual, &questions[i], &answers[i]);
+            compare(environment_of(e, e < ENVIRONMENTS ? ALL_MASKED : allowed(&questions[i])), usual, &questions[i], &answers[i]);
     }
     next_part();
     for (i = 0; i < cases; i++)

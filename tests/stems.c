@@ -228,6 +228,22 @@ static void good_files(void) {
 }
 
 /* Every byte of the header with every other value. */
+/* Files of many points are judged as those of few are: one byte of the header changed, all lengths right. */
+static void changed_bytes_of_many(void) {
+    static const uint32_t counts[] = {8, 100, 1000, MOST - 1, MOST};
+    size_t c;
+    uint32_t kind;
+    int byte, bit;
+    for (c = 0; c < sizeof counts / sizeof *counts; c++)
+        for (kind = 0; kind < 2; kind++)
+            for (byte = 0; byte < HEADER; byte++)
+                for (bit = 0; bit < 8; bit++) {
+                    size_t length = good_file(kind, counts[c]);
+                    room[byte] ^= (uint8_t)(1 << bit);
+                    compare_file(room, length);
+                }
+}
+
 static void changed_bytes(void) {
     uint32_t kind;
     int byte, value;
@@ -357,8 +373,13 @@ static void long_file(void) {
     awaited = 1;
     if (sigsetjmp(outside, 0) != 0)
         tell("a byte outside of the file is read", room, length);
-    else if (call_open(file, far).number != ZK_STEM_LENGTH)
-        tell("the number", room, length);
+    else {
+        struct opened got = call_open(file, far);
+        if (got.number != ZK_STEM_LENGTH)
+            tell("the number", room, length);
+        if (got.touched)
+            tell("an output is touched", room, length);
+    }
     awaited = 0;
     munmap(file, far);
 #endif
@@ -377,6 +398,7 @@ static void try_part(const char *name, void (*run)(void)) {
 static void written_files(void) {
     try_part("a good file", good_files);
     try_part("a byte of the header", changed_bytes);
+    try_part("a byte before many points", changed_bytes_of_many);
     try_part("a length", lengths);
     try_part("a count", counts_and_lengths);
     try_part("a far count", far_counts_files);
@@ -483,15 +505,15 @@ static void compare_point(struct point p) {
 
 /* Every class by every class by every class, and kinds that have a good one in their lower bits. */
 static void classes_of_points(void) {
-    static const uint32_t kinds[] = {0, 1, 2, 255, 0x100, 0x101, 0x10000, 0x10001, 0x80000000, 0x80000001, UINT32_MAX};
     struct point p;
-    size_t k;
+    uint32_t k;
     int period, origin, reading;
-    for (k = 0; k < sizeof kinds / sizeof *kinds; k++)
+    /* 0 and 1, and both with each higher bit */
+    for (k = 0; k < 64; k++)
         for (period = 0; period < CLASSES; period++)
             for (origin = 0; origin < CLASSES; origin++)
-                for (reading = 0; reading < CLASSES; reading += kinds[k] > 1 ? 13 : 1) {
-                    p.kind = kinds[k];
+                for (reading = 0; reading < CLASSES; reading += k > 1 ? 13 : 1) {
+                    p.kind = (k & 1) | (k > 1 ? UINT32_C(1) << (k >> 1) : 0);
                     p.period = classes[period];
                     p.origin = classes[origin];
                     p.reading = classes[reading];
