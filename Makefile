@@ -203,8 +203,9 @@ $(addprefix test-,$(programs)): test-%: $(out)/%
 $(out)/sanitized.o: tests/stems.c $(headers) | $(out)
 	$(CC) $(cflags) $(unbuilt) -Itests $(sanitize) -c $< -o $@
 
-$(out)/sanitized: $(out)/sanitized.o $(linked)
-	$(CC) $(sanitize) $< $(linked) -lm -o $@
+$(out)/sanitized: $(out)/sanitized.o tests/sanitized.sh $(linked)
+	$(CC) $(sanitize) $< $(linked) -lm -o $@-program
+	$(INSTALL) tests/sanitized.sh $@
 
 test-sanitized: $(out)/sanitized
 	$< 200000
@@ -245,8 +246,9 @@ $(faults)/lib/libzukemoriha.a: tests/faults.c include/zukemoriha.h $(linked)
 $(addprefix $(faults)/,$(programs)): $(faults)/%: $(out)/%.o $(faults)/lib/libzukemoriha.a
 	$(link) $< $(faults)/lib/libzukemoriha.a -lm -o $@
 
-$(faults)/sanitized: $(out)/sanitized.o $(faults)/lib/libzukemoriha.a
-	$(CC) $(sanitize) $< $(faults)/lib/libzukemoriha.a -lm -o $@
+$(faults)/sanitized: $(out)/sanitized.o tests/sanitized.sh $(faults)/lib/libzukemoriha.a
+	$(CC) $(sanitize) $< $(faults)/lib/libzukemoriha.a -lm -o $@-program
+	$(INSTALL) tests/sanitized.sh $@
 
 # libm on a C library whose remainder is its fmod
 $(faults)/disputed: $(out)/libm.o $(faults)/lib/libzukemoriha.a
