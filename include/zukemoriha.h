@@ -169,8 +169,8 @@ uint8_t zk_fold64(const uint64_t *x, size_t nx, uint64_t *results, size_t nr, ui
 /*
  * Judges a whole file. On 0 *kind, *period and *origin get the gauge (the origin of a turn is 0), *start the place where the points begin
  * and *count how many there are: they are file[*start] to file[*start + 16 * *count - 1]. The count is compared, with ZK_STEM_MOST and
- * with the length, and used for nothing else: no byte past the length is read. Refuses with the first that applies of 14 (shorter than 26 bytes), 10, 11, 12, 13,
- * 14 (the length is not 26 + 16 * count) and 15, and then writes nothing.
+ * with the length, and used for nothing else: no byte past the length is read. Refuses with the first that applies of 14 (shorter than
+ * 26 bytes), 10, 11, 12, 13, 14 (the length is not 26 + 16 * count) and 15, and then writes nothing.
  */
 uint8_t zk_stem_open(const uint8_t *file, size_t length, uint32_t *kind, uint64_t *period, uint64_t *origin, size_t *start, size_t *count);
 
