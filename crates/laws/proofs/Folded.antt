@@ -48,10 +48,13 @@ positive-period g = go (classOf binary64 (periodOf g)) refl
         let n = eqb-false (w .count) 0 (not-true (eqb (w .count) 0) (b .1)) in
         record { value = w; is = e; sign = not-true (w .negative) (b .0); some = omega (arith, n) }
 
-pub good-period : (g : Gauge) → good g ≡ true → Period g
+pub good-positive : (g : Gauge) → good g ≡ true → isPositive (classOf binary64 (periodOf g)) ≡ true
 unfolding good
-good-period (turn p) e = positive-period (turn p) e
-good-period (roller p o) e = positive-period (roller p o) (and-both (isPositive (classOf binary64 p)) (not (bad o)) e .0)
+good-positive (turn p) e = e
+good-positive (roller p o) e = and-both (isPositive (classOf binary64 p)) (not (bad o)) e .0
+
+pub good-period : (g : Gauge) → good g ≡ true → Period g
+good-period g e = positive-period g (good-positive g e)
 
 -- [11.4] the same by the patterns: those of periods lie between 0 and infinity's, and without its sign that of an origin is below infinity's
 abbrev infinity64 : ℕ

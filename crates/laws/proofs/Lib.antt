@@ -9,10 +9,10 @@ pub mod Range
 pub mod Division
 pub mod Agrees
 pub mod Round
-pub mod Subtraction
 pub mod Sticky
 pub mod RoundedTo
 pub mod Difference
+pub mod Subtraction
 pub mod Scaling
 pub mod Splitting
 pub mod Small

@@ -2,17 +2,17 @@
 -- there are. Assumes nothing.
 use mathlib.Core.Path.{_≡_, refl, sym, ap, _∙_}
 use mathlib.Core.Logic.{_⊎_, inl, inr}
-use mathlib.Core.Bool.{Bool, true, false, not, cond}
+use mathlib.Core.Bool.{Bool, true, false, not, cond, _&&_}
 use mathlib.Core.List.{List, [], _∷_, _++_}
 use Prim.Native.Nat.{ℕ, zero, suc, _+_, _*_, _^_, _≤_, _<_}
 use native.Mathlib.Nat.{pow-suc, mod-eq-of-lt, lt-of-le-of-lt}
 use native.Mathlib.Omega.{arith}
-use borrow.Author.Tests.{ltb-false, le-ltb, eqb-true, eq-eqb}
-use lib.Dec.{ltb, eqb, lit<, lit≤}
+use borrow.Author.Tests.{ltb-false, leb-true, le-ltb, eqb-true, eq-eqb, not-false}
+use lib.Dec.{leb, ltb, eqb, lit<, lit≤}
 use lib.ListN.{length, take, drop, length-drop, take-append-drop}
 use lib.Seq.{drop-drop, take-add, length-take-le}
 use Rattle.digits.proofs.Tests.{clash, and-both}
-use Rattle.definitions.specs.Numbers.{first}
+use Rattle.definitions.specs.Numbers.{Check, first}
 use Rattle.definitions.specs.Bytes.{bytesOf, ofBytes, loaded}
 use Rattle.definitions.specs.Stem.{Gauge, turn, roller, gaugeOf, periodOf, good, goodFields, headerLength, pointLength, mark, version, pointLimit, fileMark, fileVersion, fileKind, fileCount, filePeriod, fileOrigin, judging, opened, refused, stem, stemNumber, stemPoints, pointAt, handing}
 use Rattle.laws.proofs.Bytes.{AreBytes, of-bytes, bytes-of, take-bytes, drop-bytes}
@@ -44,47 +44,43 @@ pub record Row (file : List ℕ) (g : Gauge) (points : List ℕ) (n : ℕ) : Typ
 -- ---- the checks, taken apart
 
 -- a file that no check refuses
-record Passed (file : List ℕ) : Type 0 where
-  header : headerLength ≤ length file
-  letters : fileMark file ≡ ofBytes mark
-  edition : fileVersion file ≡ version
-  kind : fileKind file ≤ 1
-  most : fileCount file ≤ pointLimit
-  long : length file ≡ headerLength + pointLength * fileCount file
-  gauge : goodFields (fileKind file) (filePeriod file) (fileOrigin file) ≡ true
+pub record Passed (file : List ℕ) : Type 0 where
+  pub header : headerLength ≤ length file
+  pub letters : fileMark file ≡ ofBytes mark
+  pub edition : fileVersion file ≡ version
+  pub kind : fileKind file ≤ 1
+  pub most : fileCount file ≤ pointLimit
+  pub long : length file ≡ headerLength + pointLength * fileCount file
+  pub gauge : goodFields (fileKind file) (filePeriod file) (fileOrigin file) ≡ true
 
--- the first of the seven checks
-abbrev firstOf : Bool → Bool → Bool → Bool → Bool → Bool → Bool → ℕ
-firstOf a b c d e f h = cond a 14 (cond (not b) 10 (cond (not c) 11 (cond d 12 (cond e 13 (cond (not f) 14 (cond (not h) 15 0))))))
-
-passed : (file : List ℕ) → first (judging file) ≡ 0 → Passed file
+-- where none of a list applies, its first does not, and none of the others
+none-first : (c : Check) (cs : List Check) → (c .number ≡ 0 → ⊥) → first (c ∷ cs) ≡ 0 → (c .test ≡ false) × (first cs ≡ 0)
 unfolding first
-passed file =
-    go (ltb (length file) headerLength) (eqb (fileMark file) (ofBytes mark)) (eqb (fileVersion file) version) (ltb 1 (fileKind file))
-    (ltb pointLimit (fileCount file)) (eqb (length file) (headerLength + pointLength * fileCount file))
-    (goodFields (fileKind file) (filePeriod file) (fileOrigin file)) refl refl refl refl refl refl refl
+none-first c cs h = go (c .test)
   where
-    go : (a b c d e f h : Bool) → ltb (length file) headerLength ≡ a → eqb (fileMark file) (ofBytes mark) ≡ b
-        → eqb (fileVersion file) version ≡ c → ltb 1 (fileKind file) ≡ d → ltb pointLimit (fileCount file) ≡ e
-        → eqb (length file) (headerLength + pointLength * fileCount file) ≡ f
-        → goodFields (fileKind file) (filePeriod file) (fileOrigin file) ≡ h → firstOf a b c d e f h ≡ 0 → Passed file
-    go true b c d e f h ea eb ec ed ee ef eh z = absurd (omega arith)
-    go false false c d e f h ea eb ec ed ee ef eh z = absurd (omega arith)
-    go false true false d e f h ea eb ec ed ee ef eh z = absurd (omega arith)
-    go false true true true e f h ea eb ec ed ee ef eh z = absurd (omega arith)
-    go false true true false true f h ea eb ec ed ee ef eh z = absurd (omega arith)
-    go false true true false false false h ea eb ec ed ee ef eh z = absurd (omega arith)
-    go false true true false false true false ea eb ec ed ee ef eh z = absurd (omega arith)
-    go false true true false false true true ea eb ec ed ee ef eh z =
-        record {
-          header = ltb-false (length file) headerLength ea;
-          letters = eqb-true (fileMark file) (ofBytes mark) eb;
-          edition = eqb-true (fileVersion file) version ec;
-          kind = ltb-false 1 (fileKind file) ed;
-          most = ltb-false pointLimit (fileCount file) ee;
-          long = eqb-true (length file) (headerLength + pointLength * fileCount file) ef;
-          gauge = eh;
-        }
+    go : (t : Bool) → cond t (c .number) (first cs) ≡ 0 → (t ≡ false) × (first cs ≡ 0)
+    go true e = absurd (h e)
+    go false e = (refl, e)
+
+pub passed : (file : List ℕ) → first (judging file) ≡ 0 → Passed file
+passed file e =
+    let from : ℕ → List Check = λ n. drop n (judging file) in
+    let c1 = none-first _ (from 1) (λ z. omega arith) e in
+    let c2 = none-first _ (from 2) (λ z. omega arith) (c1 .1) in
+    let c3 = none-first _ (from 3) (λ z. omega arith) (c2 .1) in
+    let c4 = none-first _ (from 4) (λ z. omega arith) (c3 .1) in
+    let c5 = none-first _ (from 5) (λ z. omega arith) (c4 .1) in
+    let c6 = none-first _ (from 6) (λ z. omega arith) (c5 .1) in
+    let c7 = none-first _ (from 7) (λ z. omega arith) (c6 .1) in
+    record {
+      header = ltb-false (length file) headerLength (c1 .0);
+      letters = eqb-true (fileMark file) (ofBytes mark) (not-false _ (c2 .0));
+      edition = eqb-true (fileVersion file) version (not-false _ (c3 .0));
+      kind = ltb-false 1 (fileKind file) (c4 .0);
+      most = ltb-false pointLimit (fileCount file) (c5 .0);
+      long = eqb-true (length file) (headerLength + pointLength * fileCount file) (not-false _ (c6 .0));
+      gauge = not-false _ (c7 .0);
+    }
 
 judged : (file : List ℕ) → Passed file → first (judging file) ≡ 0
 unfolding first
@@ -101,6 +97,24 @@ judged file p =
 
 -- ---- [11.5] the numbers
 
+-- checks whose numbers are all from 10 to 15
+abbrev stemChecks : List Check → Bool
+stemChecks [] = true
+stemChecks (c ∷ cs) = (leb 10 (c .number) && leb (c .number) 15) && stemChecks cs
+
+among : (cs : List Check) → stemChecks cs ≡ true → (first cs ≡ 0) ⊎ ((10 ≤ first cs) × (first cs ≤ 15))
+unfolding first
+among [] e = inl refl
+among (c ∷ cs) e =
+    let b = and-both (leb 10 (c .number) && leb (c .number) 15) (stemChecks cs) e in
+    let n = and-both (leb 10 (c .number)) (leb (c .number) 15) (b .0) in
+    go (c .test) (leb-true 10 (c .number) (n .0)) (leb-true (c .number) 15 (n .1)) (among cs (b .1))
+  where
+    go : (t : Bool) → 10 ≤ c .number → c .number ≤ 15 → (first cs ≡ 0) ⊎ ((10 ≤ first cs) × (first cs ≤ 15))
+        → (cond t (c .number) (first cs) ≡ 0) ⊎ ((10 ≤ cond t (c .number) (first cs)) × (cond t (c .number) (first cs) ≤ 15))
+    go true l m r = inr (l, m)
+    go false l m r = r
+
 module _ (file : List ℕ) where
   abbrev fileGauge : Gauge
   fileGauge = gaugeOf (fileKind file) (filePeriod file) (fileOrigin file)
@@ -116,22 +130,7 @@ module _ (file : List ℕ) where
 
   -- which is 0, or from 10 to 15
   pub stem-numbers : (stemNumber (stem file) ≡ 0) ⊎ ((10 ≤ stemNumber (stem file)) × (stemNumber (stem file) ≤ 15))
-  unfolding first
-  stem-numbers =
-      rw stem-number
-      (go (ltb (length file) headerLength) (eqb (fileMark file) (ofBytes mark)) (eqb (fileVersion file) version) (ltb 1 (fileKind file))
-      (ltb pointLimit (fileCount file)) (eqb (length file) (headerLength + pointLength * fileCount file))
-      (goodFields (fileKind file) (filePeriod file) (fileOrigin file)))
-    where
-      go : (a b c d e f h : Bool) → (firstOf a b c d e f h ≡ 0) ⊎ ((10 ≤ firstOf a b c d e f h) × (firstOf a b c d e f h ≤ 15))
-      go true b c d e f h = inr (lit≤ tt, lit≤ tt)
-      go false false c d e f h = inr (lit≤ tt, lit≤ tt)
-      go false true false d e f h = inr (lit≤ tt, lit≤ tt)
-      go false true true true e f h = inr (lit≤ tt, lit≤ tt)
-      go false true true false true f h = inr (lit≤ tt, lit≤ tt)
-      go false true true false false false h = inr (lit≤ tt, lit≤ tt)
-      go false true true false false true false = inr (lit≤ tt, lit≤ tt)
-      go false true true false false true true = inl refl
+  stem-numbers = rw stem-number (among (judging file) refl)
 
   -- ---- [11.6 to 11.8] the part that is handed back
 
@@ -169,7 +168,7 @@ module _ (file : List ℕ) (are : AreBytes file) where
       let e : length (take k d) ≡ k = length-take-le k d (rw (length-drop at file) (omega arith)) in
       rw (← is, ← after, bytes-of k (take k d) e (take-bytes k d (drop-bytes at file are)), ← drop-drop k at file, take-append-drop k d)
 
-  field-small : (k at : ℕ) → at + k ≤ length file → loaded k at file < 256 ^ k
+  pub field-small : (k at : ℕ) → at + k ≤ length file → loaded k at file < 256 ^ k
   field-small k at fits =
       let d = drop at file in
       let e : length (take k d) ≡ k = length-take-le k d (rw (length-drop at file) (omega arith)) in

@@ -1,14 +1,13 @@
 -- The difference of two patterns of binary32 or binary64 is the toolchain's own `sub` of IEEE 754 values, for every two. Assumes nothing.
 use mathlib.Core.Path.{_≡_, refl, sym, ap, _∙_}
 use mathlib.Core.Bool.{Bool, true, false, not, cond, _&&_, Bool·beq}
-use Prim.Native.Nat.{ℕ, zero, suc, _+_, _-_, _*_, _/_, _%_, _^_, _≤_, _<_, compare, Ordering, Ordering·lt, Ordering·eq, Ordering·gt}
+use Prim.Native.Nat.{ℕ, zero, suc, _+_, _-_, _*_, _/_, _%_, _^_, _<_, compare, Ordering, Ordering·lt, Ordering·eq, Ordering·gt}
 use native.Mathlib.Nat.{add-mul, mul-comm, mul-assoc, mul-right-comm, mul-pos, mul-div-cancel, lt-of-lt-of-le}
 use native.Mathlib.Numerals.{add-one}
 use native.Mathlib.Omega.{arith}
-use borrow.Author.Tests.{le-ltb, lt-ltb, ltb-true, ltb-false, leb-true, leb-false, eqb-true, eqb-false}
-use lib.Dec.{ltb, eqb, eqb·suc-zero, isLe, isEq}
-use lib.IntN.{ℤ, pos, negsuc, negℤ, natAbs, negℤ-negℤ, negℤ-+ℤ, +ℤ-comm}
-use lib.Signed.{ltZ}
+use borrow.Author.Tests.{le-ltb, ltb-true, ltb-false, leb-true, leb-false, eqb-true, eqb-false}
+use lib.Dec.{ltb, eqb, isLe, isEq}
+use lib.IntN.{pos}
 use lib.Pow.{pow-pos, pow-mono}
 use lib.Ieee as Ieee
 use lib.Ieee.{Float, fin, inf, prec, emax, low, up, down, size, nearest, odd, units, sum, sub, ofBits, toBits}
@@ -17,14 +16,15 @@ use lib.Ieee.Fits.{two, down-pos, round-is}
 use lib.Ieee.Exact.{units-val}
 use lib.Ieee.Nearest.{closest, closest-same}
 use lib.Ieee.Scale.{round-same}
+use Rattle.digits.proofs.Tests.{clash}
 use Rattle.digits.proofs.Common.{sub-scale, ltb-scale}
 use Rattle.definitions.specs.Class.{Value, Class, unsupported, nan, infinite, finite}
 use Rattle.definitions.specs.Format.{binary32, binary64, reach, classOf}
 use Rattle.definitions.specs.Round.{round}
 use Rattle.definitions.specs.Difference.{exactDifference, roundedTo, limited, differenceValue, differenceClass, difference}
-use Rattle.laws.proofs.Gap.{sub-cases}
 use Rattle.laws.proofs.Range.{exponent-above}
 use Rattle.laws.proofs.Division.{rounds-up-once}
+use Rattle.laws.proofs.Difference.{difference-cases}
 use Rattle.laws.proofs.Agrees.{ours, ours-regular, Stands, stands, writes}
 
 abbrev value : Bool → ℕ → Value
@@ -86,36 +86,22 @@ round-stands g s n =
 abbrev added : Bool → ℕ → Bool → ℕ → Value
 added s n t m = cond (Bool·beq s t) (value s (n + m)) (cond (ltb n m) (value t (m - n)) (value (s && ltb m n) (n - m)))
 
--- a whole number with its sign, and with the sign r if it is zero
-abbrev signedBy : Bool → ℤ → Value
-signedBy r d = value (cond (eqb (natAbs d) 0) r (ltZ d (pos 0))) (natAbs d)
-
-by-pos : (n : ℕ) → signedBy false (pos n) ≡ value false n
-by-pos zero = refl
-by-pos (suc n) = rw (eqb·suc-zero n, le-ltb (suc n) 0 (omega arith))
-
-by-negsuc : (r : Bool) (k : ℕ) → signedBy r (negsuc k) ≡ value true (suc k)
-by-negsuc r k = rw (eqb·suc-zero k)
-
-by-neg : (n : ℕ) → signedBy true (negℤ (pos n)) ≡ value true n
-by-neg zero = refl
-by-neg (suc n) = by-negsuc true n
-
 exact-is : (s t : Bool) (n m : ℕ) → exactDifference (value s n) (value t m) ≡ added s n (not t) m
-unfolding exactDifference
-exact-is false true n m = rw (negℤ-negℤ (pos m)) (by-pos (n + m))
-exact-is true false n m = rw (← negℤ-+ℤ (pos n) (pos m)) (by-neg (n + m))
-exact-is false false n m =
-    sub-cases (λ d. signedBy false d ≡ added false n true m) n m (λ h. rw (le-ltb n m h) (by-pos (n - m)))
-    (λ k e. let i : m - n ≡ suc k = omega arith in rw (lt-ltb n m (omega arith), i) (by-negsuc false k))
-exact-is true true n m =
-    rw (negℤ-negℤ (pos m), +ℤ-comm (negℤ (pos n)) (pos m))
-    (sub-cases (λ d. signedBy false d ≡ added true n false m) m n (λ h. by-pos (m - n) ∙ rw (le-ltb m n h) (go (ltb n m) refl h))
-    (λ k e. let i : n - m ≡ suc k = omega arith in rw (le-ltb n m (omega arith), lt-ltb m n (omega arith), i) (by-negsuc false k)))
+exact-is s t n m = difference-cases (value s n) (value t m) ∙ go s t (ltb m n) (ltb n m) refl refl
   where
-    go : (t : Bool) → ltb n m ≡ t → n ≤ m → value false (m - n) ≡ cond t (value false (m - n)) (value false (n - m))
-    go true e h = refl
-    go false e h = let i : m - n ≡ n - m = omega (arith, ltb-false n m e) in rw i
+    go : (s t a b : Bool) → ltb m n ≡ a → ltb n m ≡ b
+        → _≡_ {A = Value} (cond (Bool·beq s t) (cond a (value s (n - m)) (cond b (value (not s) (m - n)) (value false 0))) (value s (n + m)))
+        (cond (Bool·beq s (not t)) (value s (n + m)) (cond b (value (not t) (m - n)) (value (s && a) (n - m))))
+    go true false a b e f = refl
+    go false true a b e f = refl
+    go true true true true e f = clash (omega (arith, ltb-true m n e, ltb-true n m f))
+    go true true true false e f = refl
+    go true true false true e f = refl
+    go true true false false e f = let none : n - m ≡ 0 = omega (arith, ltb-false m n e) in rw none
+    go false false true true e f = clash (omega (arith, ltb-true m n e, ltb-true n m f))
+    go false false true false e f = refl
+    go false false false true e f = refl
+    go false false false false e f = let none : n - m ≡ 0 = omega (arith, ltb-false m n e) in rw none
 
 -- ---- fractions over c, and the counts of 1 / l that they are
 module _ (g : Ieee.Format) (c l : ℕ) (pc : 0 < c) (pl : 0 < l) where

@@ -15,7 +15,7 @@ use Rattle.definitions.specs.Remainder.{Remainder, remainder}
 use Rattle.definitions.specs.Fold.{bad}
 use Rattle.definitions.specs.Answers.{remainderMeaning, joined}
 use Rattle.definitions.specs.Difference.{difference}
-use Rattle.definitions.specs.Stem.{Gauge, turn, roller, periodOf, isPositive, good, shifted, foldReading}
+use Rattle.definitions.specs.Stem.{Gauge, turn, roller, periodOf, isPositive, shifted, foldReading}
 use Rattle.definitions.specs.declared.Kind.the-variants.{Truncated}
 use Rattle.definitions.specs.declared.Pattern.{Pattern}
 use Rattle.definitions.specs.declared.Refusal.{Refusal}
@@ -39,12 +39,6 @@ shifted-turn g p x e = rw e
 pub shifted-roller : (g : code.Gauge) (p o : Float) (x : ℕ) → g ≡ Roller p o → shifted (gaugeBits g) x ≡ difference binary64 x (toBits Ieee.binary64 o)
 unfolding shifted
 shifted-roller g p o x e = rw e
-
--- the period of a good gauge is above zero
-pub positive-period : (g : Gauge) → good g ≡ true → isPositive (classOf binary64 (periodOf g)) ≡ true
-unfolding good
-positive-period (turn p) e = e
-positive-period (roller p o) e = and-both (isPositive (classOf binary64 p)) (not (bad o)) e .0
 
 -- the number of a pair, by what the two stand for
 number-of : (x y : ℕ) → remainder binary64 Truncated x y .number ≡ first (dividing (classOf binary64 x) (classOf binary64 y))

@@ -1,29 +1,19 @@
 -- Bytes that are read one by one are the fields of a header. Assumes nothing.
-use mathlib.Core.Path.{_≡_, refl, sym, subst, ap, _∙_}
+use mathlib.Core.Path.{_≡_, refl, ap, _∙_}
 use mathlib.Core.Bool.{Bool, true, false, _&&_}
 use mathlib.Core.List.{List, _∷_}
-use Prim.Native.Nat.{ℕ, suc, _+_, _*_, _%_, _^_, _<_, _≤_}
-use native.Mathlib.Nat.{mod-lt, one-le-pow}
+use Prim.Native.Nat.{ℕ, suc, _+_, _*_, _<_, _≤_}
 use native.Mathlib.Omega.{arith}
-use lib.Dec.{eqb, lit<}
-use lib.ListN.{length, getD, take, drop, length-drop}
-use lib.Seq.{drop-cons, length-take-le}
+use lib.Dec.{eqb}
+use lib.ListN.{length, getD, drop}
+use lib.Seq.{drop-cons}
 use borrow.Author.Tests.{eq-eqb, ne-eqb, eqb-true, eqb-false}
-use Rattle.definitions.specs.Bytes.{bytesOf, ofBytes, loaded}
+use Rattle.definitions.specs.Bytes.{ofBytes, loaded}
 use Rattle.definitions.specs.Stem.{headerLength, mark, fileMark}
-use Rattle.laws.proofs.Bytes.{AreBytes, of-bytes, bytes-of, take-bytes, drop-bytes}
+use Rattle.laws.proofs.Bytes.{AreBytes}
 
 pub byte-at : (l : List ℕ) (i : ℕ) → i < length l → loaded 1 i l ≡ getD l i 0
 byte-at l i h = rw (drop-cons l i 0 h) (omega arith)
-
--- a field of k bytes is below 256 ^ k
-pub loaded-small : (k at : ℕ) (l : List ℕ) → at + k ≤ length l → AreBytes l → loaded k at l < 256 ^ k
-loaded-small k at l fits h =
-    let bs = take k (drop at l) in
-    let e : length bs ≡ k = length-take-le k (drop at l) (rw (length-drop at l) (omega arith)) in
-    let back : bytesOf k (loaded k at l) ≡ bs = bytes-of k bs e (take-bytes k (drop at l) (drop-bytes at l h)) in
-    let is : loaded k at l ≡ loaded k at l % 256 ^ k = sym (ap ofBytes back) ∙ of-bytes k (loaded k at l) in
-    subst (λ (n : ℕ). n < 256 ^ k) (sym is) (mod-lt (loaded k at l) (one-le-pow k 256 (lit< tt)))
 
 -- three bytes are the number of three others only if each is the other's
 module _ (a b c : ℕ) (ha : a < 256) (hb : b < 256) (hc : c < 256) where

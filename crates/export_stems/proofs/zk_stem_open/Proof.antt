@@ -12,9 +12,9 @@ use Rattle.definitions.specs.Bytes.{loaded}
 use Rattle.gauges.specs.Held.{gaugeHeld}
 use Rattle.gauges.specs.declared.Gauge.{Gauge}
 use Rattle.stems.specs.declared.StemAnswer.the-variants.{Opened}
+use Rattle.laws.proofs.Stem.{Passed, passed, field-small}
 use Rattle.stems.specs.Opened.{answerOf}
-use Rattle.stems.proofs.Header.{loaded-small}
-use Rattle.stems.proofs.Opened.{Accepted, accepts, stem-opened, stem-refused, told-opened, told-refused}
+use Rattle.stems.proofs.Opened.{stem-opened, stem-refused, told-opened, told-refused}
 use Rattle.export_stems.proofs.Refusing.{kept}
 use Rattle.export_stems.proofs.Handed.{turn-fields, roller-fields}
 use borrow.Author.Needs.{needs}
@@ -78,15 +78,15 @@ answered m = sym (asked m .open-stem .ensures) ∙ m .before .before .gauge .giv
 taken : (m : tie.At-match2-came) → first (judging (file m)) ≡ 0
 taken m = told-opened (file m) (found m) (answered m)
 
-says : (m : tie.At-match2-came) → Accepted (file m)
-says m = accepts (file m) (taken m)
+says : (m : tie.At-match2-came) → Passed (file m)
+says m = passed (file m) (taken m)
 
 held : (m : tie.At-match2-came) → gaugeHeld (gaugeOf (fileKind (file m)) (filePeriod (file m)) (fileOrigin (file m))) ≡ found m
 held m = let e = sym (ap answerOf (stem-opened (file m) (taken m))) ∙ answered m in cc
 
-field-small : (m : tie.At-match2-came) (at : ℕ) → at ≤ 18 → loaded 8 at (file m) < 2 ^ 64
-field-small m at h =
-    loaded-small 8 at (file m) (omega (arith, says m .long)) (λ i. omega (arith, asked m .before .shared-slice-known .given i))
+small : (m : tie.At-match2-came) (at : ℕ) → at ≤ 18 → loaded 8 at (file m) < 2 ^ 64
+small m at h =
+    field-small (file m) (λ i. omega (arith, asked m .before .shared-slice-known .given i)) 8 at (omega (arith, says m .header))
 
 written : (m : tie.At-match2-came)
     → (m .match2 .kind ≡ fileKind (file m)) × (m .match2 .period ≡ filePeriod (file m)) × (m .match2 .origin ≡ fileOrigin (file m))
@@ -95,8 +95,8 @@ written m =
     let k = fileKind (file m) in
     let p = filePeriod (file m) in
     let o = fileOrigin (file m) in
-    let period-small = field-small m 10 (omega arith) in
-    let origin-small = field-small m 18 (omega arith) in
+    let period-small = small m 10 (omega arith) in
+    let origin-small = small m 18 (omega arith) in
     ⊎-elim
     (λ w.
     let t = turn-fields k p o (s .gauge) period-small origin-small _ (held m ∙ w .1 .given .1) in
@@ -114,7 +114,7 @@ returns-2 c =
     let o = stem-opened f (taken m) in
     let part : c .points-of .result .now ≡ drop headerLength f = c .points-of .ensures ∙ ap stemPoints o in
     let long : length (c .points-of .result .now) ≡ length f - headerLength = ap length part ∙ length-drop headerLength f in
-    (sym (ap stemNumber o), (w .0, (w .1, (w .2, (refl, rw long (omega (arith, says m .whole)))))))
+    (sym (ap stemNumber o), (w .0, (w .1, (w .2, (refl, rw long (omega (arith, says m .long)))))))
 
 pub zk-stem-open-spec : {M : Type 1} → statement M
 zk-stem-open-spec =

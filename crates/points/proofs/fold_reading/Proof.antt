@@ -1,6 +1,7 @@
 -- `fold_reading` meets its contract. Assumes nothing.
 use Rattle.gauges.specs.Held.{gaugeBits}
-use Rattle.points.proofs.Folded.{positive-period, fold-is}
+use Rattle.laws.proofs.Folded.{good-positive}
+use Rattle.points.proofs.Folded.{fold-is}
 use borrow.Author.Needs.{needs}
 use Rattle.points.proofs.fold_reading.Statement.{statement}
 use Rattle.points.proofs.fold_reading.Tie as tie
@@ -14,7 +15,7 @@ shifted-requires c κs = search needs
 remainder-by-requires : tie.Need-remainder-by-requires
 remainder-by-requires c κs =
     let p = c .before in
-    rw (p .period-of .ensures) (positive-period (gaugeBits (p .before .args .gauge)) (p .before .pre))
+    rw (p .period-of .ensures) (good-positive (gaugeBits (p .before .args .gauge)) (p .before .pre))
 
 returns : tie.Need-returns
 returns c =

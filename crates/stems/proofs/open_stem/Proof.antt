@@ -6,10 +6,11 @@ use native.Mathlib.Omega.{arith}
 use Rattle.definitions.specs.Numbers.{first}
 use Rattle.definitions.specs.Stem.{fileKind, filePeriod, fileOrigin, gaugeOf, judging}
 use Rattle.gauges.specs.Held.{gaugeHeld}
+use Rattle.laws.proofs.Stem.{Passed, passed}
 use Rattle.stems.specs.Opened.{answerOf}
 use Rattle.stems.specs.declared.StemAnswer.the-variants.{Opened, Refused}
 use Rattle.stems.proofs.Header.{byte-at}
-use Rattle.stems.proofs.Opened.{Accepted, accepts, stem-opened, stem-refused}
+use Rattle.stems.proofs.Opened.{stem-opened, stem-refused}
 use borrow.Author.Needs.{needs}
 use Rattle.stems.proofs.open_stem.Statement.{statement}
 use Rattle.stems.proofs.open_stem.Tie as tie
@@ -20,8 +21,8 @@ file c = c .before .before .before .args .file .now
 accepted : (c : tie.Else1) → first (judging (file c)) ≡ 0
 accepted c = sym (c .before .judge-stem .ensures) ∙ c .if1 .left
 
-says : (c : tie.Else1) → Accepted (file c)
-says c = accepts (file c) (accepted c)
+says : (c : tie.Else1) → Passed (file c)
+says c = passed (file c) (accepted c)
 
 judge-stem-requires : tie.Need-judge-stem-requires
 judge-stem-requires c κs = search needs
@@ -53,7 +54,7 @@ returns-2 c =
     let e = d .before .before in
     let f = file e in
     let g : c .gauge-of .result ≡ gaugeHeld (gaugeOf (fileKind f) (filePeriod f) (fileOrigin f)) =
-    rw (byte-at f 5 (omega (arith, says e .long)), ← d .load8 .ensures, ← c .before .load82 .ensures) (c .gauge-of .ensures) in
+    rw (byte-at f 5 (omega (arith, says e .header)), ← d .load8 .ensures, ← c .before .load82 .ensures) (c .gauge-of .ensures) in
     ap Opened g ∙ sym (ap answerOf (stem-opened f (accepted e)))
 
 pub open-stem-spec : {M : Type 1} → statement M

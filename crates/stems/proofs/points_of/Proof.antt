@@ -7,7 +7,8 @@ use lib.ListN.{length, drop, length-drop}
 use lib.Seq.{take-all}
 use Rattle.definitions.specs.Numbers.{first}
 use Rattle.definitions.specs.Stem.{headerLength, judging, stemPoints}
-use Rattle.stems.proofs.Opened.{Accepted, accepts, stem-opened, stem-refused}
+use Rattle.laws.proofs.Stem.{Passed, passed}
+use Rattle.stems.proofs.Opened.{stem-opened, stem-refused}
 use borrow.Author.Needs.{needs}
 use Rattle.stems.proofs.points_of.Statement.{statement}
 use Rattle.stems.proofs.points_of.Tie as tie
@@ -18,8 +19,8 @@ file c = c .before .before .before .args .file .now
 accepted : (c : tie.Else1) → first (judging (file c)) ≡ 0
 accepted c = sym (c .before .judge-stem .ensures) ∙ c .if1 .left
 
-says : (c : tie.Else1) → Accepted (file c)
-says c = accepts (file c) (accepted c)
+says : (c : tie.Else1) → Passed (file c)
+says c = passed (file c) (accepted c)
 
 judge-stem-requires : tie.Need-judge-stem-requires
 judge-stem-requires c κs = search needs
@@ -40,10 +41,10 @@ returns c =
     sym (ap stemPoints (stem-refused f (λ e. c .before .if1 .taken (n .ensures ∙ e))))
 
 sub-result-2 : tie.Need-sub-result-2
-sub-result-2 c = omega (arith, says c .long)
+sub-result-2 c = omega (arith, says c .header)
 
 part-result-start-2 : tie.Need-part-result-start-2
-part-result-start-2 c = omega (arith, says c .long)
+part-result-start-2 c = omega (arith, says c .header)
 
 part-result-end-2 : tie.Need-part-result-end-2
 part-result-end-2 c = search needs
