@@ -33,18 +33,22 @@ fn rounded(quotient: u64, remainder: u64, up: bool) -> RoundedWord
     }
 }
 
-// n / 2^places to the nearest whole number, a half going to the even one. An odd quotient goes up at the half and an even one past it.
+// n / 2^places to the nearest whole number, a half going to the even one. Cuts of no place and of 64 places or more are settled first;
+// then it is one division by a power of two, and one comparison of the left-over with half of that power.
 pub fn round_places(n: u64, places: u32) -> RoundedWord
     ensures { λ r. ⌜ r ≡ roundOf n places ⌝ }
 {
-    if 64 < places {
-        return rounded(0, n, false);
+    if places == 0 {
+        return rounded(n, 0, false);
     }
-    if places == 64 {
-        return rounded(0, n, 9223372036854775808 < n);
+    // all of n is left over, and of the halves only that of 2^64 is a word
+    if 64 <= places {
+        return rounded(0, n, places == 64 && 9223372036854775808 < n);
     }
     let power = 1u64 << places;
+    let half = power >> 1;
     let quotient = n / power;
     let remainder = n % power;
-    rounded(quotient, remainder, power < remainder * 2 + quotient % 2)
+    // an odd quotient goes up at the half, an even one past it
+    rounded(quotient, remainder, half < remainder + quotient % 2)
 }
