@@ -16,9 +16,6 @@ use Rattle.laws.proofs.Division.{rounds-up-once}
 use Rattle.rounding.specs.Round.{roundOf, roundedOf}
 use Rattle.rounding.specs.declared.RoundedWord.{RoundedWord}
 
-abbrev pub half : ℕ → ℕ
-half m = m / 2
-
 module _ (q r m : ℕ) where
   -- the definition's answer is the code's: where nothing is left over, the test fails
   pub rounded-once : 0 < m → record { quotient = cond (roundsUp Nearest q r m) (q + 1) q; says = direction (eqb r 0) (roundsUp Nearest q r m) }
@@ -34,12 +31,12 @@ module _ (q r m : ℕ) where
       go false false e f = refl
 
   -- against half of the divisor: an odd quotient goes up at the half, an even one past it
-  half-once : m % 2 ≡ 0 → ltb m (r * 2 + q % 2) ≡ ltb (half m) (r + q % 2)
-  half-once even = go (ltb (half m) (r + q % 2)) refl
+  half-once : m % 2 ≡ 0 → ltb m (r * 2 + q % 2) ≡ ltb (m / 2) (r + q % 2)
+  half-once even = go (ltb (m / 2) (r + q % 2)) refl
     where
-      go : (t : Bool) → ltb (half m) (r + q % 2) ≡ t → ltb m (r * 2 + q % 2) ≡ t
-      go true e = lt-ltb m (r * 2 + q % 2) (omega (arith, ltb-true (half m) (r + q % 2) e))
-      go false e = le-ltb m (r * 2 + q % 2) (omega (arith, ltb-false (half m) (r + q % 2) e))
+      go : (t : Bool) → ltb (m / 2) (r + q % 2) ≡ t → ltb m (r * 2 + q % 2) ≡ t
+      go true e = lt-ltb m (r * 2 + q % 2) (omega (arith, ltb-true (m / 2) (r + q % 2) e))
+      go false e = le-ltb m (r * 2 + q % 2) (omega (arith, ltb-false (m / 2) (r + q % 2) e))
 
 pow-even : (k : ℕ) → 0 < k → 2 ^ k % 2 ≡ 0
 pow-even (suc k) h = rw (pow-suc 2 k) (mul-mod-left (2 ^ k) 2)
@@ -51,11 +48,11 @@ module _ (n k : ℕ) where
   round-rounded = rounded-once (n / 2 ^ k) (n % 2 ^ k) (2 ^ k) (pow-pos k)
 
   -- and the test is one comparison with half of it
-  pub round-half : 0 < k → roundOf n k ≡ roundedOf (n / 2 ^ k) (n % 2 ^ k) (ltb (half (2 ^ k)) (n % 2 ^ k + n / 2 ^ k % 2))
+  pub round-half : 0 < k → roundOf n k ≡ roundedOf (n / 2 ^ k) (n % 2 ^ k) (ltb (2 ^ k / 2) (n % 2 ^ k + n / 2 ^ k % 2))
   round-half some = rw (half-once (n / 2 ^ k) (n % 2 ^ k) (2 ^ k) (pow-even k some)) at round-rounded
 
   -- all of n is left over
-  pub round-whole : 0 < k → n < 2 ^ k → roundOf n k ≡ roundedOf 0 n (ltb (half (2 ^ k)) n)
+  pub round-whole : 0 < k → n < 2 ^ k → roundOf n k ≡ roundedOf 0 n (ltb (2 ^ k / 2) n)
   round-whole some h = rw (div-eq-of-lt h, mod-eq-of-lt h, add-zero) at (round-half some)
 
   -- a quotient with something left over can go up

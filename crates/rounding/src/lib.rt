@@ -9,7 +9,7 @@ pub struct RoundedWord {
     pub says: Rounding,
 }
 
-// A quotient with what was left over, and whether it goes up.
+// A quotient with what was left over, and whether it then goes up.
 fn rounded(quotient: u64, remainder: u64, up: bool) -> RoundedWord
     requires { ⌜ (0 < remainder → quotient + 1 < 2 ^ 64) ⌝ }
     ensures { λ r. ⌜ r ≡ roundedOf quotient remainder up ⌝ }
@@ -33,22 +33,23 @@ fn rounded(quotient: u64, remainder: u64, up: bool) -> RoundedWord
     }
 }
 
-// n / 2^places to the nearest whole number, a half going to the even one. Cuts of no place and of 64 places or more are settled first;
-// then it is one division by a power of two, and one comparison of the left-over with half of that power.
+// n / 2^places to the nearest whole number, a half going to the even one. Cuts of no place and of 64 places or more are settled first.
+// Then it is one division by a power of two, which gives a quotient and a left-over, and one comparison of the left-over with half of that
+// power.
 pub fn round_places(n: u64, places: u32) -> RoundedWord
     ensures { λ r. ⌜ r ≡ roundOf n places ⌝ }
 {
     if places == 0 {
         return rounded(n, 0, false);
     }
-    // all of n is left over, and of the halves only that of 2^64 is a word
+    // all of n is left over, and from 65 places on it is less than half
     if 64 <= places {
-        return rounded(0, n, places == 64 && 9223372036854775808 < n);
+        return rounded(0, n, places == 64 && 1u64 << 63 < n);
     }
     let power = 1u64 << places;
     let half = power >> 1;
     let quotient = n / power;
     let remainder = n % power;
-    // an odd quotient goes up at the half, an even one past it
+    // an odd quotient goes up at the half already: its left-over counts one more
     rounded(quotient, remainder, half < remainder + quotient % 2)
 }

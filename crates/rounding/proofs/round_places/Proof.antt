@@ -11,7 +11,7 @@ use borrow.Author.Tests.{le-ltb, ne-eqb}
 use lib.Pow.{pow-pos, pow-lt, pow-mono}
 use lib.Dec.{ltb}
 use Rattle.rounding.specs.Round.{roundedOf}
-use Rattle.rounding.proofs.TiesToEven.{half, round-none, round-half, round-whole, round-room}
+use Rattle.rounding.proofs.TiesToEven.{round-none, round-half, round-whole, round-room}
 use Rattle.rounding.proofs.round_places.Statement.{statement}
 use Rattle.rounding.proofs.round_places.Tie as tie
 
@@ -24,13 +24,13 @@ returns c =
     c .rounded .ensures ∙ rw (c .before .if1 .taken) (ap (λ (q : ℕ). roundedOf q 0 false) (omega arith) ∙ sym (round-none n))
 
 -- from 64 places on n passes half of the power only at 64
-past-half : (j : tie.Joined3) → j .if3 .rounded ≡ ltb (half (2 ^ j .before .before .before .args .places)) (j .before .before .before .args .n)
+past-half : (j : tie.Joined3) → j .if3 .rounded ≡ ltb (2 ^ j .before .before .before .args .places / 2) (j .before .before .before .args .n)
 past-half j =
     let a = j .before .before .before .args in
     let p = 2 ^ a .places in
     ⊎-elim
     (λ w. w .1 ∙ ap (λ (h : ℕ). ltb h (a .n)) (rw (w .0 .taken) (omega arith)))
-    (λ w. w .1 ∙ ne-eqb (a .places) 64 (w .0 .left) ∙ sym (le-ltb (half p) (a .n) (let m = pow-mono {i = 65} {j = a .places} (omega arith) in omega arith)))
+    (λ w. w .1 ∙ ne-eqb (a .places) 64 (w .0 .left) ∙ sym (le-ltb (p / 2) (a .n) (let m = pow-mono {i = 65} {j = a .places} (omega arith) in omega arith)))
     (j .if3 .came)
 
 rounded-requires-2 : tie.Need-rounded-requires-2
@@ -68,14 +68,14 @@ add-rounded c = rw (power c) (omega (arith, left-over c))
 rounded-requires-3 : tie.Need-rounded-requires-3
 rounded-requires-3 c κs = rw (power c) (λ h. omega (arith, round-room (c .before .before .args .n) (c .before .before .args .places) h))
 
--- what is compared is found, however the code writes it: what is refused is a wrong one
+-- the number that is compared with the half may be written otherwise: it is found by its value
 returns-3 : tie.Need-returns-3
 returns-3 c =
     let a = c .before .before .before .args in
     let p = 2 ^ a .places in
     c .rounded3 .ensures
     ∙ rw (power (c .before))
-    (ap (λ (t : ℕ). roundedOf (a .n / p) (a .n % p) (ltb (half p) t)) (omega (arith, left-over (c .before)))
+    (ap (λ (t : ℕ). roundedOf (a .n / p) (a .n % p) (ltb (p / 2) t)) (omega (arith, left-over (c .before)))
     ∙ sym (round-half (a .n) (a .places) (omega arith)))
 
 pub round-places-spec : {M : Type 1} → statement M
