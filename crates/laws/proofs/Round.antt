@@ -1,8 +1,8 @@
 -- Rounding by a number of binary places: exact multiples, a common place, and what it does to the digits. Assumes nothing.
-use mathlib.Core.Path.{_≡_, refl, sym, ap, _∙_}
+use mathlib.Core.Path.{_≡_, refl, sym, ap, ap₂, _∙_}
 use mathlib.Core.Bool.{Bool, true, false, not, cond, _&&_}
 use Prim.Native.Nat.{ℕ, _+_, _-_, _*_, _/_, _%_, _^_, _≤_, _<_}
-use native.Mathlib.Nat.{zero-mul, mul-div-mul-right, mul-mod-left, mul-div-cancel, mod-lt, mod-le, mod-add-div, mod-eq-of-lt, div-eq-of-lt, div-le-self, div-lt-self, pos-of-ne-zero, div-mul-cancel, one-dvd, dvd-mul-left, lt-of-lt-of-le}
+use native.Mathlib.Nat.{zero-mul, mul-div-mul-right, mul-mod-left, mul-div-cancel, mod-lt, mod-le, mod-add-div, mod-eq-of-lt, div-eq-of-lt, div-le-self, div-lt-self, pos-of-ne-zero, div-mul-cancel, one-dvd, dvd-mul-left, lt-of-lt-of-le, mul-le-mul-right}
 use native.Mathlib.Omega.{arith}
 use borrow.Author.Tests.{le-ltb, lt-ltb, eq-eqb, ne-eqb, ltb-true, ltb-false, eqb-true, eqb-false}
 use lib.Dec.{T, leb, leb→le, nleb→lt, ltb, eqb}
@@ -162,3 +162,21 @@ round-closest n k = rw (rounds-up-once q r d) (go (ltb d (r * 2 + q % 2)) (eqb r
             let l = less in
             let h = half in
             record { above = omega arith; below = omega arith; even-above = λ j. omega arith; even-below = λ j. omega arith; told = side z i }
+
+-- of two such quotients none is the greater: one place apart both would lie at a half, and be even
+apart : {n d q m : ℕ} {s t : Rounding} → 0 < d → Closest n d q s → Closest n d m t → q < m → ⊥
+apart {n} {d} {q} {m} some a b l =
+    let i : q * d + d ≤ m * d = omega (arith, mul-le-mul-right d l) in
+    let above = b .above in
+    let below = a .below in
+    let e = b .even-above (omega arith) in
+    let f = a .even-below (omega arith) in
+    let two : q + 2 ≤ m = omega arith in
+    omega (arith, mul-le-mul-right d two)
+
+-- nothing else is the closest
+pub round-only : (n k q : ℕ) (says : Rounding) → Closest n (2 ^ k) q says → round n k ≡ record { quotient = q; says = says }
+round-only n k q says c =
+    let r = round-closest n k in
+    let e : round n k .quotient ≡ q = omega (arith, apart (pow-pos k) c r, apart (pow-pos k) r c) in
+    ap₂ (λ (m : ℕ) (s : Rounding). record { quotient = m; says = s }) e (r .told ∙ ap (λ (m : ℕ). against (m * 2 ^ k) n) e ∙ sym (c .told))
