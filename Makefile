@@ -42,7 +42,7 @@ cflags = -std=c99 -O2 $(warnings) -Iinclude
 unbuilt = $(foreach n,fmod remainder remquo ldexp frexp,-fno-builtin-$(n) -fno-builtin-$(n)f -fno-builtin-$(n)l)
 sanitize = -g -fsanitize=address,undefined -fno-sanitize-recover=all
 parallel = $(MAKE) --no-print-directory -j$$(nproc) --output-sync=target
-headers = tests/calls.h tests/operands.h include/zukemoriha.h
+headers = tests/calls.h tests/operands.h tests/halves.h include/zukemoriha.h
 exported = sed -n 's/^[a-z0-9_]* \(zk_[a-z0-9_]*\)(.*/\1/p' $(header)
 # Run in rust/: nothing comes from a registry, and the caller's flags are left out. The crate looks for the archive from its own folder.
 unset = MAKEFLAGS MFLAGS CARGO_MAKEFLAGS RUSTFLAGS CARGO_ENCODED_RUSTFLAGS CARGO_BUILD_RUSTFLAGS CARGO_BUILD_TARGET \

@@ -1,9 +1,9 @@
 /*
  * Steps and runs against the processor's own FPREM and FPREM1, scaling against FSCALE, splitting against FXTRACT. x86-64 only.
  *
- *   fprem [PAIRS [SEED]]
+ *   fprem [PAIRS [SEED]]    so many of each, then scalings around halves
  */
-#include "operands.h"
+#include "halves.h"
 
 #if !defined(__x86_64__)
 
@@ -222,33 +222,56 @@ static struct pattern any_operand(uint64_t *state) {
     return below(state, 8) ? any_finite(X87, state) : below(state, 2) ? any_special(X87, state) : any_bits(X87, state);
 }
 
-static void compare_scaling(uint64_t cases, uint64_t *state) {
+enum { REFUSED = -1 };
+
+/* Returns what the processor says of its rounding, or REFUSED. */
+static int compare_scaling(const char *what, struct pattern x, int32_t power) {
+    struct flags c;
+    struct pattern theirs = processor_scale(x, power, &c);
+    struct reply ours = call_scale(X87, x, power);
+    int right, says = is_nan(theirs) ? REFUSED : !c.inexact ? ZK_EXACT : c.c1 ? ZK_UP : ZK_DOWN;
+    if (says == REFUSED)
+        right = ours.number == (is_unsupported(x) ? ZK_UNSUPPORTED : ZK_NAN);
+    else
+        right = ours.number == 0 && same(ours.value, theirs) && ours.says == says;
+    if ((!right || ours.touched) && differs())
+        printf("%s %s by %ld:\n  zukemoriha %s says %d number %u\n  processor  %s says %d\n", what, text(X87, x), (long)power,
+               text(X87, ours.value), ours.says, ours.number, text(X87, theirs), says);
+    return says;
+}
+
+static void compare_scalings(uint64_t cases, uint64_t *state) {
     uint64_t i, compared = 0, rounded = 0, refused = 0;
     for (i = 0; going(i, cases); i++) {
         struct pattern x = any_operand(state);
         int32_t power = any_power(x, state);
-        struct flags c;
-        struct pattern theirs;
-        struct reply ours;
-        int says, right;
+        int says;
         if (is_pseudo_denormal(x))
             continue;
         compared++;
-        theirs = processor_scale(x, power, &c);
-        ours = call_scale(X87, x, power);
-        says = !c.inexact ? ZK_EXACT : c.c1 ? ZK_UP : ZK_DOWN;
-        if (is_nan(theirs)) {
-            refused++;
-            right = ours.number == (is_unsupported(x) ? ZK_UNSUPPORTED : ZK_NAN);
-        } else {
-            rounded += says != ZK_EXACT;
-            right = ours.number == 0 && same(ours.value, theirs) && ours.says == says;
-        }
-        if ((!right || ours.touched) && differs())
-            printf("scaling of %s by %ld:\n  zukemoriha %s says %d number %u\n  processor  %s says %d\n", text(X87, x), (long)power,
-                   text(X87, ours.value), ours.says, ours.number, text(X87, theirs), says);
+        says = compare_scaling("scaling of", x, power);
+        refused += says == REFUSED;
+        rounded += says == ZK_UP || says == ZK_DOWN;
     }
     printf("scaling: %" PRIu64 " cases, %" PRIu64 " rounded, %" PRIu64 " refused by both\n", compared, rounded, refused);
+}
+
+/* What the processor says around halves. */
+static uint64_t cut[3];
+
+static void compare_cut(int f, struct pattern x, int power) {
+    int says = compare_scaling("around a half,", x, power);
+    (void)f;
+    if (says != REFUSED)
+        cut[says]++;
+}
+
+static void compare_halves(void) {
+    uint64_t halves;
+    next_part();
+    halves = around_halves(X87, compare_cut);
+    printf("scaling around halves: %" PRIu64 " cases, %" PRIu64 " of them at a half; %" PRIu64 " exact, %" PRIu64 " up, %" PRIu64 " down\n",
+           cut[ZK_EXACT] + cut[ZK_UP] + cut[ZK_DOWN], halves, cut[ZK_EXACT], cut[ZK_UP], cut[ZK_DOWN]);
 }
 
 /* Only nonzero finite values: FXTRACT answers zeros and infinities otherwise than the library. */
@@ -269,8 +292,9 @@ static void compare_splitting(uint64_t cases, uint64_t *state) {
 int main(int argc, char **argv) {
     uint64_t pairs = pairs_asked(argc, argv, 1000000), state = seed_asked(argc, argv);
     compare_pairs(pairs, &state);
-    compare_scaling(pairs, &state);
+    compare_scalings(pairs, &state);
     compare_splitting(pairs, &state);
+    compare_halves();
     return verdict();
 }
 

@@ -3,9 +3,9 @@
  * rounding is held to the result scaled back: a power that lowers a value loses bits, and the way back loses none. binary16, which C has no
  * type for, is scaled as a double that counts its smallest place, and rounded by rint.
  *
- *   ldexp [CASES [SEED]]    CASES of each for each format
+ *   ldexp [CASES [SEED]]    CASES of each for each format, then scalings around halves
  */
-#include "operands.h"
+#include "halves.h"
 
 #include <math.h>
 
@@ -122,7 +122,7 @@ static void print_case(int f, struct pattern x, const char *what, struct reply r
            r.says + r.exponent, r.number, text(f, theirs), second, number);
 }
 
-static void compare_scaling(int f, struct pattern x, int power, struct theirs c) {
+static void compare_scaling(int f, struct pattern x, int power, struct theirs c, const char *how) {
     struct reply r = call_scale(f, x, power);
     int right = r.number == c.scale_number && !r.touched;
     char what[32];
@@ -130,7 +130,7 @@ static void compare_scaling(int f, struct pattern x, int power, struct theirs c)
         right = same(r.value, c.scaled) && r.says == c.says;
     if (right || !differs())
         return;
-    sprintf(what, "scaled by %d", power);
+    sprintf(what, "%s by %d", how, power);
     print_case(f, x, what, r, c.scaled, c.says, c.scale_number);
 }
 
@@ -145,6 +145,7 @@ static void compare_splitting(int f, struct pattern x, struct theirs c) {
 
 static void compare_format(int f, uint64_t cases, uint64_t seed) {
     uint64_t i, state = seed + (uint64_t)f, refused = 0, said[3] = {0, 0, 0};
+    next_part();
     for (i = 0; going(i, cases); i++) {
         struct pattern x = any_pair(f, &state).x;
         int power = any_power(f, x, &state);
@@ -157,11 +158,29 @@ static void compare_format(int f, uint64_t cases, uint64_t seed) {
             refused++;
         else
             said[c.says]++;
-        compare_scaling(f, x, power, c);
+        compare_scaling(f, x, power, c, "scaled");
         compare_splitting(f, x, c);
     }
     printf("%s: %" PRIu64 " scaled exactly, %" PRIu64 " up, %" PRIu64 " down, %" PRIu64 " refused, and all of them split\n", formats[f].name,
            said[ZK_EXACT], said[ZK_UP], said[ZK_DOWN], refused);
+}
+
+/* What the C library says around halves. */
+static uint64_t cut[3];
+
+static void compare_cut(int f, struct pattern x, int power) {
+    struct theirs c = ask(f, x, power);
+    cut[c.says]++;
+    compare_scaling(f, x, power, c, "around a half");
+}
+
+static void compare_halves(int f) {
+    uint64_t halves;
+    memset(cut, 0, sizeof cut);
+    next_part();
+    halves = around_halves(f, compare_cut);
+    printf("%s around halves: %" PRIu64 " scalings, %" PRIu64 " of them at a half; %" PRIu64 " exactly, %" PRIu64 " up, %" PRIu64 " down\n",
+           formats[f].name, cut[ZK_EXACT] + cut[ZK_UP] + cut[ZK_DOWN], halves, cut[ZK_EXACT], cut[ZK_UP], cut[ZK_DOWN]);
 }
 
 int main(int argc, char **argv) {
@@ -169,8 +188,12 @@ int main(int argc, char **argv) {
     compare_format(BINARY16, cases, seed);
     compare_format(BINARY32, cases, seed);
     compare_format(BINARY64, cases, seed);
+    compare_halves(BINARY16);
+    compare_halves(BINARY32);
+    compare_halves(BINARY64);
 #ifdef ZK_LONG_DOUBLE_IS_X87
     compare_format(X87, cases, seed);
+    compare_halves(X87);
 #else
     printf("x87: long double is another format here, not compared\n");
 #endif
