@@ -1,12 +1,12 @@
 /*
- * binary16 by binary16, both kinds, against whole-number division: every finite binary16 value is a count of 2^-24 below 2^40, so that
- * the scope's definition can be run as it is written.
+ * binary16 by binary16, both kinds, against whole-number division, and binary16 scaled by every power that tells something: every finite
+ * binary16 value is a count of 2^-24 below 2^40, so that the scope's definition can be run as it is written.
  *
  *   half [STRIDE]    every STRIDE-th divisor for each dividend (251); 1 is all 2^32 pairs
  */
 #include "calls.h"
 
-enum { PATTERNS = 65536, SIGN = 0x8000, INFINITY_PATTERN = 0x7C00 };
+enum { PATTERNS = 65536, SIGN = 0x8000, INFINITY_PATTERN = 0x7C00, COUNT_BITS = 40 };
 
 static uint64_t counts[PATTERNS]; /* of finite patterns */
 
@@ -68,6 +68,79 @@ static void compare(unsigned x, unsigned y, int nearest) {
                got.value, (unsigned)got.quotient, got_number, want.value, (unsigned)want.quotient, number);
 }
 
+struct scaled {
+    uint16_t value;
+    uint8_t says;
+    int at_a_half;
+};
+
+/* A count / 2^places: what is left over against half of what is cut. With a place more than a count has bits it is always less. */
+static struct scaled lowered(uint64_t n, int64_t places) {
+    int cut = places > COUNT_BITS + 1 ? COUNT_BITS + 1 : (int)places;
+    uint64_t whole = UINT64_C(1) << cut, quotient = n >> cut, left = n % whole;
+    int up = 2 * left > whole || (2 * left == whole && quotient % 2 == 1);
+    struct scaled s = {pattern_of(up ? quotient + 1 : quotient), ZK_EXACT, 2 * left == whole};
+    if (left > 0)
+        s.says = up ? ZK_UP : ZK_DOWN;
+    return s;
+}
+
+/* A count above 0 * 2^power: exact, or beyond the range. */
+static struct scaled raised(uint64_t n, int32_t power) {
+    struct scaled s = {INFINITY_PATTERN, ZK_UP, 0};
+    if (power < COUNT_BITS && n >> (COUNT_BITS - power) == 0) {
+        s.value = pattern_of(n << power);
+        s.says = ZK_EXACT;
+    }
+    return s;
+}
+
+/* Of a number. Zeros and infinities stay as they are. */
+static struct scaled expected_scaling(unsigned x, int32_t power) {
+    struct scaled s = {x & 0x7FFF, ZK_EXACT, 0};
+    if (s.value != 0 && s.value != INFINITY_PATTERN)
+        s = power < 0 ? lowered(counts[x], -(int64_t)power) : raised(counts[x], power);
+    s.value |= x & SIGN;
+    return s;
+}
+
+static struct {
+    uint64_t said[3], halves, refused;
+} scalings;
+
+static void compare_scaling(unsigned x, int32_t power) {
+    int number = (x & 0x7FFF) > INFINITY_PATTERN ? ZK_NAN : ZK_FINISHED;
+    struct scaled want = {0xA5A5, 0xA5, 0}, got = {0xA5A5, 0xA5, 0};
+    uint8_t got_number = zk_scale16((uint16_t)x, power, &got.value, &got.says);
+    if (number == 0) {
+        want = expected_scaling(x, power);
+        scalings.said[want.says]++;
+        scalings.halves += (uint64_t)want.at_a_half;
+    } else {
+        scalings.refused++;
+    }
+    if (got_number == number && got.value == want.value && got.says == want.says)
+        return;
+    if (differs())
+        printf("%04X scaled by %ld:\n  zukemoriha %04X says %u number %u\n  expected   %04X says %u number %d\n", x, (long)power, got.value,
+               got.says, got_number, want.value, want.says, number);
+}
+
+/* By every power from one that leaves nothing of any value to one that takes each beyond the range, and by some that are farther. */
+static void compare_scalings(void) {
+    static const int32_t far[] = {INT32_MIN, INT32_MIN + 1, -65536, -256, -64, 64, 256, 65536, INT32_MAX - 1, INT32_MAX};
+    unsigned x, i;
+    int32_t power;
+    for (x = 0; going(x, PATTERNS); x++) {
+        for (power = -COUNT_BITS - 2; power <= COUNT_BITS + 1; power++)
+            compare_scaling(x, power);
+        for (i = 0; i < sizeof far / sizeof *far; i++)
+            compare_scaling(x, far[i]);
+    }
+    printf("binary16: %" PRIu64 " scaled exactly, %" PRIu64 " up, %" PRIu64 " down, %" PRIu64 " refused; %" PRIu64 " were at a half\n",
+           scalings.said[ZK_EXACT], scalings.said[ZK_UP], scalings.said[ZK_DOWN], scalings.refused, scalings.halves);
+}
+
 int main(int argc, char **argv) {
     unsigned stride = argc > 1 ? (unsigned)strtoul(argv[1], NULL, 10) : 251, x, y;
     uint64_t pairs = 0;
@@ -81,5 +154,7 @@ int main(int argc, char **argv) {
             compare(x, y, 1);
         }
     printf("binary16: %" PRIu64 " pairs, both kinds\n", pairs);
+    next_part();
+    compare_scalings();
     return verdict();
 }
