@@ -118,6 +118,10 @@ half 31744  | rem16-quotient-of-two-bits                 | kind 0
 half 31744  | rem16-quotient-of-two-bits                 | kind 1
 half 31744  | rem16-infinity-by-zero-is-five             | zukemoriha .* number 5
 half 31744  | rem16-refusal-writes                       | by 0000 kind
+half 31744  | scale16-half-always-up                     | ^.... scaled by
+half 31744  | scale16-nothing-loses-its-sign             | ^.... scaled by
+half 31744  | scale16-nothing-left-is-exact              | ^.... scaled by
+half 31744  | scale16-nan-is-infinite                    | ^.... scaled by
 fprem 2000  | step-zero-loses-its-sign                   | ^step of
 fprem 2000  | step-zero-finishes                         | ^step of
 fprem 2000  | step-partial-not-counted                   | ^step of
@@ -142,6 +146,10 @@ fprem 2000  | scale80-nan-is-unsupported                 | ^scaling of
 fprem 2000  | scale80-refusal-writes                     | ^scaling of
 fprem 2000  | split80-loses-its-sign                     | ^splitting of
 fprem 2000  | split80-exponent-one-too-low               | ^splitting of
+fprem 2000  | scale80-half-of-the-wrong-power            | ^around a half
+fprem 2000  | scale80-64-places-as-63                    | ^around a half
+fprem 2000  | scale80-no-place-rounds                    | ^around a half
+fprem 2000  | scale80-nothing-loses-its-sign             | ^around a half
 fprem 20    | none                                       | has no pair
 libm 2000   | rem64-zero-loses-its-sign                  | ^binary64 .* kind 0
 libm 2000   | rem64-half-always-up                       | ^binary64 .* kind 1
@@ -177,6 +185,14 @@ ldexp 2000  | split64-denormal-exponent-from-its-field   | ^binary64 .* split
 ldexp 2000  | split64-refusal-writes                     | ^binary64 .* split
 ldexp 2000  | split80-loses-its-sign                     | ^x87 .* split
 ldexp 2000  | split80-exponent-one-too-low               | ^x87 .* split
+ldexp 2000  | scale16-half-always-up                     | ^binary16 .* around a half
+ldexp 2000  | scale16-nothing-loses-its-sign             | ^binary16 .* around a half
+ldexp 2000  | scale32-half-always-down                   | ^binary32 .* around a half
+ldexp 2000  | scale32-nothing-left-is-up                 | ^binary32 .* around a half
+ldexp 2000  | scale64-half-always-up                     | ^binary64 .* around a half
+ldexp 2000  | scale80-half-of-the-wrong-power            | ^x87 .* around a half
+ldexp 2000  | scale80-64-places-as-63                    | ^x87 .* around a half
+ldexp 2000  | scale80-no-place-rounds                    | ^x87 .* around a half
 stems 2000  | stem-open-most-is-3999                     | ^a good file: the number
 stems 2000  | stem-open-start-one-point-too-far          | ^a good file: what is written
 stems 2000  | stem-open-start-one-point-too-far          | ^a good file: other points

@@ -232,12 +232,60 @@ uint8_t zk_run80(uint64_t x, uint16_t xw, uint64_t y, uint16_t yw, uint32_t size
     return number;
 }
 
+/*
+ * What scaling says. By power + 1 it cuts one place less: what is rounded by power lies at a half if it is then exact, and what goes down
+ * has more than a quarter left over if it then goes up. By a power from 0 on nothing is cut.
+ */
+
+static uint8_t said16(uint16_t x, int32_t power) {
+    uint16_t value;
+    uint8_t says = ZK_DOWN;
+    real_zk_scale16(x, power, &value, &says);
+    return says;
+}
+
+static uint8_t said32(uint32_t x, int32_t power) {
+    uint32_t value;
+    uint8_t says = ZK_DOWN;
+    real_zk_scale32(x, power, &value, &says);
+    return says;
+}
+
+static uint8_t said64(uint64_t x, int32_t power) {
+    uint64_t value;
+    uint8_t says = ZK_DOWN;
+    real_zk_scale64(x, power, &value, &says);
+    return says;
+}
+
+static uint8_t said80(uint64_t x, uint16_t xw, int32_t power) {
+    uint64_t value;
+    uint16_t valuew;
+    uint8_t says = ZK_DOWN;
+    real_zk_scale80(x, xw, power, &value, &valuew, &says);
+    return says;
+}
+
+/* How many places scaling cuts from 64 digits, or -1 of what is not nonzero and finite. All are kept of a result from 2^-16382 on. */
+static int64_t places80(uint64_t x, uint16_t xw, int32_t power) {
+    uint64_t significand;
+    uint16_t significandw;
+    int32_t exponent;
+    if (real_zk_split80(x, xw, &significand, &significandw, &exponent) != ZK_FINISHED)
+        return -1;
+    return (int64_t)-16382 - exponent - power;
+}
+
 uint8_t zk_scale16(uint16_t x, int32_t power, uint16_t *value, uint8_t *says) {
     uint8_t number = real_zk_scale16(x, power, value, says);
     if (fault("scale16-nothing-left-is-exact") && number == ZK_FINISHED && *says == ZK_DOWN && power < -64)
         *says = ZK_EXACT; /* nothing is left, and said to be exact */
     if (fault("scale16-nothing-loses-its-sign") && number == ZK_FINISHED && *says == ZK_DOWN && *value == 0x8000)
         *value = 0;
+    if (fault("scale16-half-always-up") && number == ZK_FINISHED && *says == ZK_DOWN && said16(x, power + 1) == ZK_EXACT) {
+        *value += 1;
+        *says = ZK_UP;
+    }
     if (fault("scale16-nan-is-infinite") && number == ZK_NAN)
         return ZK_INFINITE;
     return number;
@@ -253,6 +301,10 @@ uint8_t zk_scale32(uint32_t x, int32_t power, uint32_t *value, uint8_t *says) {
         *value = 0; /* the sign of what is rounded to nothing */
     if (fault("scale32-nothing-left-is-up") && number == ZK_FINISHED && *says == ZK_DOWN && (*value & 0x7FFFFFFF) == 0)
         *says = ZK_UP;
+    if (fault("scale32-half-always-down") && number == ZK_FINISHED && *says == ZK_UP && power < 0 && said32(x, power + 1) == ZK_EXACT) {
+        *value -= 1;
+        *says = ZK_DOWN;
+    }
     return number;
 }
 
@@ -267,6 +319,10 @@ uint8_t zk_scale64(uint64_t x, int32_t power, uint64_t *value, uint8_t *says) {
         *value -= 1; /* what is below the smallest place is cut */
         *says = ZK_DOWN;
     }
+    if (fault("scale64-half-always-up") && number == ZK_FINISHED && *says == ZK_DOWN && said64(x, power + 1) == ZK_EXACT) {
+        *value += 1;
+        *says = ZK_UP;
+    }
     return number;
 }
 
@@ -274,7 +330,18 @@ uint8_t zk_scale80(uint64_t x, uint16_t xw, int32_t power, uint64_t *value, uint
     uint8_t number;
     if (fault("scale80-pseudo-denormal-is-a-number") && (xw & 32767) == 0 && x > sign64)
         xw++; /* e = 0 with J = 1 is taken as a number */
+    if (fault("scale80-64-places-as-63") && places80(x, xw, power) == 64)
+        power++;
     number = real_zk_scale80(x, xw, power, value, valuew, says);
+    if (fault("scale80-no-place-rounds") && number == ZK_FINISHED && places80(x, xw, power) == 0 && *value % 2 == 1) {
+        *value -= 1; /* the last digit is rounded, where none is cut */
+        *says = ZK_DOWN;
+    }
+    if (fault("scale80-half-of-the-wrong-power") && number == ZK_FINISHED && *says == ZK_DOWN && said80(x, xw, power + 1) == ZK_UP) {
+        *value += 1; /* from a quarter on it goes up */
+        *valuew |= *value >> 63;
+        *says = ZK_UP;
+    }
     if (fault("scale80-refusal-writes") && number == ZK_NAN)
         *valuew = 0x7FFF; /* a refusal writes */
     if (fault("scale80-nothing-loses-its-sign") && number == ZK_FINISHED && *says == ZK_DOWN && *value == 0)
