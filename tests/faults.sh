@@ -9,7 +9,7 @@ cargo=${2:?usage: faults.sh FOLDER CARGO}
 shift 2
 [ $# -gt 0 ] || set -- $(sed -n 's/.*fault("\([^"]*\)").*/\1/p' tests/faults.c)
 programs='untouched stems modes chains fold ldexp libm half fprem'
-comparisons='--test folds --test half --test lists --test published --test readings --test runs --test sequence --test stems --test vectors'
+comparisons='--test folds --test half --test halves --test lists --test published --test readings --test runs --test sequence --test stems --test vectors'
 # what a refusal writes into a single lent number stays inside the safe Rust functions, which have no kind but 0 and 1 and no turn with an
 # origin; lists, blocks and files of 2^32 places, bytes outside of a file, memory and floating-point environments are not for a test in Rust
 c_only='rem16-refusal-writes rem64-refusal-writes scale80-refusal-writes split64-refusal-writes fold-refusal-writes

@@ -11,6 +11,7 @@ mod fields;
 pub mod folds;
 mod formats;
 pub mod half;
+pub mod halves;
 mod library;
 pub mod lines;
 pub mod lists;

@@ -1,0 +1,70 @@
+//! Scalings that cut off every number of places, around each half, through both implementations.
+
+mod altered;
+
+use altered::{Altered, CHANGES};
+use compare::{halves, Second, PAIR};
+
+/// A significand has 64 digits: from 65 places on all of them are rounded the same way.
+const MOST_PLACES: u64 = 130;
+
+/// How often each format had a half, and was exact, up and down.
+const COVERED: [(&str, u64); 16] = [
+    ("Binary16 at a half", 864),
+    ("Binary16 says 0", 2_140),
+    ("Binary16 says 1", 3_052),
+    ("Binary16 says 2", 4_776),
+    ("Binary32 at a half", 2_112),
+    ("Binary32 says 0", 3_850),
+    ("Binary32 says 1", 5_664),
+    ("Binary32 says 2", 8_410),
+    ("Binary64 at a half", 4_896),
+    ("Binary64 says 0", 5_416),
+    ("Binary64 says 1", 13_574),
+    ("Binary64 says 2", 16_336),
+    ("X87 at a half", 5_944),
+    ("X87 says 0", 6_002),
+    ("X87 says 1", 16_622),
+    ("X87 says 2", 19_374),
+];
+
+#[test]
+fn every_number_of_places_around_each_half() {
+    let (comparison, covered) = halves::compare(PAIR, MOST_PLACES);
+    let (answers, different) = (comparison.answers, comparison.different);
+    println!("{answers} scalings, {different} different: {covered:?}");
+    assert_eq!((answers, different), (105_216, 0));
+    let covered: Vec<_> = covered
+        .iter()
+        .map(|(cell, &count)| (cell.as_str(), count))
+        .collect();
+    assert_eq!(covered, COVERED);
+}
+
+/// The differences that this prints are wanted.
+#[test]
+fn a_wrong_scaling_is_noticed() {
+    for (what, change) in CHANGES {
+        let altered = Altered::answer(change);
+        let (comparison, _) = halves::compare([&altered, &Second], 1);
+        assert_eq!(comparison.different, 1, "{what}");
+    }
+}
+
+/// Also where both are wrong alike.
+#[test]
+fn a_wrong_count_is_noticed() {
+    let (right, cells) = halves::compare(PAIR, 1);
+    let both = [(); 2].map(|_| Altered::answer(|answer| answer.says ^= 2));
+    let (wrong, other_cells) = halves::compare([&both[0], &both[1]], 1);
+    assert_eq!((wrong.answers, wrong.different), (right.answers, 0));
+    assert_ne!(other_cells, cells);
+}
+
+/// A number of places less is another count.
+#[test]
+fn a_missing_number_of_places_is_noticed() {
+    let [less, all] = [MOST_PLACES - 1, MOST_PLACES].map(|most| halves::compare(PAIR, most));
+    assert_ne!(less.0.answers, all.0.answers);
+    assert_ne!(less.1, all.1);
+}
