@@ -122,6 +122,7 @@ half 31744  | scale16-half-always-up                     | ^.... scaled by
 half 31744  | scale16-nothing-loses-its-sign             | ^.... scaled by
 half 31744  | scale16-nothing-left-is-exact              | ^.... scaled by
 half 31744  | scale16-nan-is-infinite                    | ^.... scaled by
+half 31744  | scale16-refusal-writes                     | ^.... scaled by
 fprem 2000  | step-zero-loses-its-sign                   | ^step of
 fprem 2000  | step-zero-finishes                         | ^step of
 fprem 2000  | step-partial-not-counted                   | ^step of

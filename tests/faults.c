@@ -286,6 +286,8 @@ uint8_t zk_scale16(uint16_t x, int32_t power, uint16_t *value, uint8_t *says) {
         *value += 1;
         *says = ZK_UP;
     }
+    if (fault("scale16-refusal-writes") && number == ZK_NAN)
+        *says = ZK_EXACT;
     if (fault("scale16-nan-is-infinite") && number == ZK_NAN)
         return ZK_INFINITE;
     return number;

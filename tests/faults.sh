@@ -12,7 +12,7 @@ programs='untouched stems modes chains fold ldexp libm half fprem'
 comparisons='--test folds --test half --test halves --test lists --test published --test readings --test runs --test sequence --test stems --test vectors'
 # what a refusal writes into a single lent number stays inside the safe Rust functions, which have no kind but 0 and 1 and no turn with an
 # origin; lists, blocks and files of 2^32 places, bytes outside of a file, memory and floating-point environments are not for a test in Rust
-c_only='rem16-refusal-writes rem64-refusal-writes scale80-refusal-writes split64-refusal-writes fold-refusal-writes
+c_only='rem16-refusal-writes rem64-refusal-writes scale16-refusal-writes scale80-refusal-writes split64-refusal-writes fold-refusal-writes
     rem16-only-1-is-nearest step-only-1-is-nearest run-only-1-is-nearest fold-only-1-is-nearest rem32-other-kinds-write-more
     step-length-cut-to-32-bits run-length-cut-to-32-bits fold-lengths-compared-in-32-bits
     stem-open-refusal-writes-the-count stem-open-refusal-writes-the-kind stem-open-refusal-writes-the-start
