@@ -34,7 +34,7 @@ for crate in $(ls crates); do
     grep -q "^| \`$crate\` |" docs/GATE.md || say "docs/GATE.md has no times of the crate $crate"
 done
 
-for page in README.md docs/*.md rust/zukemoriha/README.md vectors/README.md; do
+for page in README.md docs/*.md docs/changes/*.md rust/zukemoriha/README.md vectors/README.md; do
     folder=$(dirname "$page")
     for link in $(grep -o '](\([^)#]*\)' "$page" | sed 's/](//' | grep -v '^$' | sort -u); do
         [ -e "$folder/$link" ] || say "$page: no $link"

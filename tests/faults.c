@@ -340,7 +340,7 @@ uint8_t zk_scale80(uint64_t x, uint16_t xw, int32_t power, uint64_t *value, uint
         *says = ZK_DOWN;
     }
     if (fault("scale80-half-of-the-wrong-power") && number == ZK_FINISHED && *says == ZK_DOWN && said80(x, xw, power + 1) == ZK_UP) {
-        *value += 1; /* from a quarter on it goes up */
+        *value += 1; /* past a quarter it goes up; a half stays */
         *valuew |= *value >> 63;
         *says = ZK_UP;
     }

@@ -7,7 +7,7 @@ set -eu
 folder=${1:?usage: faults.sh FOLDER CARGO}
 cargo=${2:?usage: faults.sh FOLDER CARGO}
 shift 2
-[ $# -gt 0 ] || set -- $(sed -n 's/.*fault("\([^"]*\)").*/\1/p' tests/faults.c)
+[ $# -gt 0 ] || set -- $(grep -o 'fault("[^"]*")' tests/faults.c | cut -d '"' -f 2)
 programs='untouched stems modes chains fold ldexp libm half fprem'
 comparisons='--test folds --test half --test halves --test lists --test published --test readings --test runs --test sequence --test stems --test vectors'
 # what a refusal writes into a single lent number stays inside the safe Rust functions, which have no kind but 0 and 1 and no turn with an

@@ -1,6 +1,7 @@
 /*
  * Values whose scaling cuts off every number of places, with left-overs around a half of what is cut. A significand has its leading one at
- * bit 63, and places are counted from its bit 0: a format of p digits loses nothing by the first 64 - p of them.
+ * bit 63, and places are counted from its bit 0: a format of p digits has nothing there in the first 64 - p of them. With fewer than 24
+ * places a value of binary16 is beyond the range.
  */
 #ifndef HALVES_H
 #define HALVES_H
@@ -47,7 +48,7 @@ static inline void scale_significand(struct halves *h, uint64_t significand) {
     }
 }
 
-/* Where nothing can be left over, or nothing is kept: the first digit, with the last, all, all but the last, and some. */
+/* Where nothing can be left over, or nothing can go up: the first digit, with the last, all, all but the last, and some. */
 static inline void scale_digits(struct halves *h) {
     uint64_t top = UINT64_C(1) << 63, last = last_digit(h->f), all = ~(last - 1), drawn = draw(&h->state) & all;
     uint64_t significands[] = {top, top | last, all, all ^ last, top | drawn, top | (drawn ^ all)};

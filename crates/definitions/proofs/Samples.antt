@@ -1,4 +1,4 @@
--- Cuts, lists, blocks and lines, computed from the definitions. Assumes nothing.
+-- Roundings, lists, blocks and lines, computed from the definitions. Assumes nothing.
 use mathlib.Core.Path.{_≡_, refl}
 use mathlib.Core.Bool.{Bool, true, false, cond}
 use mathlib.Core.List.{List, [], _∷_, map}
@@ -31,45 +31,45 @@ use Rattle.definitions.specs.Line.{isHex, digitOf, lineFor, outputFor}
 use Rattle.definitions.specs.Exports.{after, significandIn, wordIn, saysNumber}
 use Rattle.definitions.specs.Samples.{text}
 
--- ---- [6.1, 6.4] n cut by so many places: no place, each side of a half and the half itself at an even and at an odd quotient, the largest
--- words, and places at which nothing is kept
-pub record Cut : Type 0 where
+-- ---- [6.1, 6.4] n rounded by so many places: no place, each side of a half and the half itself at an even and at an odd quotient, the
+-- largest words, and places at which nothing is kept
+pub record Row : Type 0 where
   pub n : ℕ
   pub places : ℕ
   pub rounded : Rounded
 
-abbrev cut : ℕ → ℕ → ℕ → Rounding → Cut
-cut n k q says = record { n = n; places = k; rounded = record { quotient = q; says = says } }
+abbrev row : ℕ → ℕ → ℕ → Rounding → Row
+row n k q says = record { n = n; places = k; rounded = record { quotient = q; says = says } }
 
-abbrev cuts : List Cut
-cuts =
-    cut 5 0 5 Exact
-    ∷ cut 0xFFFFFFFFFFFFFFFF 0 0xFFFFFFFFFFFFFFFF Exact
-    ∷ cut 8 2 2 Exact
-    ∷ cut 9 2 2 Down
-    ∷ cut 10 2 2 Down
-    ∷ cut 11 2 3 Up
-    ∷ cut 12 2 3 Exact
-    ∷ cut 13 2 3 Down
-    ∷ cut 14 2 4 Up
-    ∷ cut 15 2 4 Up
-    ∷ cut 1 1 0 Down
-    ∷ cut 3 1 2 Up
-    ∷ cut 0xFFFFFFFFFFFFFFFF 1 0x8000000000000000 Up
-    ∷ cut 0x4000000000000000 63 0 Down
-    ∷ cut 0x4000000000000001 63 1 Up
-    ∷ cut 0x8000000000000000 63 1 Exact
-    ∷ cut 0xBFFFFFFFFFFFFFFF 63 1 Down
-    ∷ cut 0xC000000000000000 63 2 Up
-    ∷ cut 0 64 0 Exact
-    ∷ cut 0x8000000000000000 64 0 Down
-    ∷ cut 0x8000000000000001 64 1 Up
-    ∷ cut 0xFFFFFFFFFFFFFFFF 64 1 Up
-    ∷ cut 0xFFFFFFFFFFFFFFFF 65 0 Down
-    ∷ cut 1 1000 0 Down
+abbrev rows : List Row
+rows =
+    row 5 0 5 Exact
+    ∷ row 0xFFFFFFFFFFFFFFFF 0 0xFFFFFFFFFFFFFFFF Exact
+    ∷ row 8 2 2 Exact
+    ∷ row 9 2 2 Down
+    ∷ row 10 2 2 Down
+    ∷ row 11 2 3 Up
+    ∷ row 12 2 3 Exact
+    ∷ row 13 2 3 Down
+    ∷ row 14 2 4 Up
+    ∷ row 15 2 4 Up
+    ∷ row 1 1 0 Down
+    ∷ row 3 1 2 Up
+    ∷ row 0xFFFFFFFFFFFFFFFF 1 0x8000000000000000 Up
+    ∷ row 0x4000000000000000 63 0 Down
+    ∷ row 0x4000000000000001 63 1 Up
+    ∷ row 0x8000000000000000 63 1 Exact
+    ∷ row 0xBFFFFFFFFFFFFFFF 63 1 Down
+    ∷ row 0xC000000000000000 63 2 Up
+    ∷ row 0 64 0 Exact
+    ∷ row 0x8000000000000000 64 0 Down
+    ∷ row 0x8000000000000001 64 1 Up
+    ∷ row 0xFFFFFFFFFFFFFFFF 64 1 Up
+    ∷ row 0xFFFFFFFFFFFFFFFF 65 0 Down
+    ∷ row 1 1000 0 Down
     ∷ []
 
-pub roundings : map (λ (c : Cut). round (c .n) (c .places)) cuts ≡ map (λ (c : Cut). c .rounded) cuts
+pub roundings : map (λ (r : Row). round (r .n) (r .places)) rows ≡ map (λ (r : Row). r .rounded) rows
 unfolding round
 roundings = refl
 

@@ -4,12 +4,13 @@ ghost use mathlib.Core.Path.{_≡_};
 ghost use Prim.Native.Nat.{_+_, _<_, _^_};
 ghost use Rattle.rounding.specs.Round.{roundOf, roundedOf};
 
+// The quotient is the one after rounding.
 pub struct RoundedWord {
     pub quotient: u64,
     pub says: Rounding,
 }
 
-// A quotient with what was left over, and whether it then goes up.
+// A quotient with what was left over, and whether it goes up if anything was.
 fn rounded(quotient: u64, remainder: u64, up: bool) -> RoundedWord
     requires { ⌜ (0 < remainder → quotient + 1 < 2 ^ 64) ⌝ }
     ensures { λ r. ⌜ r ≡ roundedOf quotient remainder up ⌝ }
@@ -42,7 +43,7 @@ pub fn round_places(n: u64, places: u32) -> RoundedWord
     if places == 0 {
         return rounded(n, 0, false);
     }
-    // all of n is left over, and from 65 places on it is less than half
+    // all of n is left over: it passes half of 2^64 or not, and is below half of any higher power
     if 64 <= places {
         return rounded(0, n, places == 64 && 1u64 << 63 < n);
     }

@@ -1,7 +1,8 @@
 //! Scalings that cut off every number of places, with left-overs around a half of what is cut.
 //!
 //! A significand has its leading one at bit 63, and places are counted from its bit 0: a format of
-//! `p` digits loses nothing by the first `64 - p` of them.
+//! `p` digits has nothing there in the first `64 - p` of them. With fewer than 24 places a value of
+//! binary16 is beyond the range.
 
 use crate::call::{Call, Pair};
 use crate::formats::{Layout, FORMATS};
@@ -69,7 +70,7 @@ fn scalings(layout: &Layout, significand: u64, places: u64) -> Vec<Case> {
     from.into_iter().flat_map(scaled).collect()
 }
 
-/// Quotients with left-overs. Where nothing can be left over, or nothing is kept: the first digit,
+/// Quotients with left-overs. Where nothing can be left over, or nothing can go up: the first digit,
 /// with the last, all, all but the last, and drawn ones.
 fn significands(layout: &Layout, places: u64, draw: &mut Draw) -> BTreeSet<u64> {
     let last = 1 << (64 - layout.precision);

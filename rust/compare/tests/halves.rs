@@ -41,13 +41,15 @@ fn every_number_of_places_around_each_half() {
     assert_eq!(covered, COVERED);
 }
 
-/// The differences that this prints are wanted.
+/// The differences that this prints are wanted. The first is beyond the range, the second is cut.
 #[test]
 fn a_wrong_scaling_is_noticed() {
     for (what, change) in CHANGES {
-        let altered = Altered::answer(change);
-        let (comparison, _) = halves::compare([&altered, &Second], 1);
-        assert_eq!(comparison.different, 1, "{what}");
+        for left in [5, 4_000] {
+            let altered = Altered::later_answer(change, left);
+            let (comparison, _) = halves::compare([&altered, &Second], MOST_PLACES);
+            assert_eq!(comparison.different, 1, "{what}");
+        }
     }
 }
 

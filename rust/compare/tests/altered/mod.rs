@@ -43,9 +43,14 @@ impl Altered {
     }
 
     pub fn answer(change: Change<Answer>) -> Altered {
+        Altered::later_answer(change, 5)
+    }
+
+    /// The answer that comes after so many.
+    pub fn later_answer(change: Change<Answer>, left: i64) -> Altered {
         Altered {
             answer: change,
-            ..Altered::after(5)
+            ..Altered::after(left)
         }
     }
 
