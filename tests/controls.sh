@@ -149,9 +149,11 @@ fprem 2000  | split80-loses-its-sign                     | ^splitting of
 fprem 2000  | split80-exponent-one-too-low               | ^splitting of
 fprem 2000  | scale80-half-of-the-wrong-power            | ^around a half
 fprem 2000  | scale80-64-places-as-63                    | ^around a half
+fprem 2000  | scale80-half-of-a-denormal-up              | ^around a half
 fprem 2000  | scale80-no-place-rounds                    | ^around a half
 fprem 2000  | scale80-nothing-loses-its-sign             | ^around a half
 fprem 20    | none                                       | has no pair
+fprem 2000 1 20 | none                                   | ^x87 has no half at 30 places
 libm 2000   | rem64-zero-loses-its-sign                  | ^binary64 .* kind 0
 libm 2000   | rem64-half-always-up                       | ^binary64 .* kind 1
 libm 2000   | rem64-far-quotient-of-two-bits             | ^binary64 .* kind 0
@@ -191,8 +193,11 @@ ldexp 2000  | scale16-nothing-loses-its-sign             | ^binary16 .* around a
 ldexp 2000  | scale32-half-always-down                   | ^binary32 .* around a half
 ldexp 2000  | scale32-nothing-left-is-up                 | ^binary32 .* around a half
 ldexp 2000  | scale64-half-always-up                     | ^binary64 .* around a half
+ldexp 2000  | scale64-half-of-a-denormal-up              | ^binary64 .* around a half
 ldexp 2000  | scale80-half-of-the-wrong-power            | ^x87 .* around a half
 ldexp 2000  | scale80-64-places-as-63                    | ^x87 .* around a half
+ldexp 2000  | scale80-half-of-a-denormal-up              | ^x87 .* around a half
+ldexp 2000 1 20 | none                                   | ^binary64 has no half at 30 places
 ldexp 2000  | scale80-no-place-rounds                    | ^x87 .* around a half
 stems 2000  | stem-open-most-is-3999                     | ^a good file: the number
 stems 2000  | stem-open-start-one-point-too-far          | ^a good file: what is written

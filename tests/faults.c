@@ -321,6 +321,11 @@ uint8_t zk_scale64(uint64_t x, int32_t power, uint64_t *value, uint8_t *says) {
         *value -= 1; /* what is below the smallest place is cut */
         *says = ZK_DOWN;
     }
+    if (fault("scale64-half-of-a-denormal-up") && number == ZK_FINISHED && *says == ZK_DOWN && (x & infinity64) == 0 && power == -17 &&
+        said64(x, power + 1) == ZK_EXACT) {
+        *value += 1; /* by one power alone */
+        *says = ZK_UP;
+    }
     if (fault("scale64-half-always-up") && number == ZK_FINISHED && *says == ZK_DOWN && said64(x, power + 1) == ZK_EXACT) {
         *value += 1;
         *says = ZK_UP;
@@ -335,6 +340,11 @@ uint8_t zk_scale80(uint64_t x, uint16_t xw, int32_t power, uint64_t *value, uint
     if (fault("scale80-64-places-as-63") && places80(x, xw, power) == 64)
         power++;
     number = real_zk_scale80(x, xw, power, value, valuew, says);
+    if (fault("scale80-half-of-a-denormal-up") && number == ZK_FINISHED && *says == ZK_DOWN && (xw & 32767) == 0 && power == -14 &&
+        said80(x, xw, power + 1) == ZK_EXACT) {
+        *value += 1;
+        *says = ZK_UP;
+    }
     if (fault("scale80-no-place-rounds") && number == ZK_FINISHED && places80(x, xw, power) == 0 && *value % 2 == 1) {
         *value -= 1; /* the last digit is rounded, where none is cut */
         *says = ZK_DOWN;

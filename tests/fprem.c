@@ -1,7 +1,7 @@
 /*
  * Steps and runs against the processor's own FPREM and FPREM1, scaling against FSCALE, splitting against FXTRACT. x86-64 only.
  *
- *   fprem [PAIRS [SEED]]    so many of each, then scalings around halves
+ *   fprem [PAIRS [SEED [PLACES]]]    so many of each, then scalings around halves, by up to PLACES places (130)
  */
 #include "halves.h"
 
@@ -266,10 +266,10 @@ static void compare_cut(int f, struct pattern x, int power) {
         cut[says]++;
 }
 
-static void compare_halves(void) {
+static void compare_halves(int most) {
     uint64_t halves;
     next_part();
-    halves = around_halves(X87, compare_cut);
+    halves = around_halves(X87, most, compare_cut);
     printf("scaling around halves: %" PRIu64 " cases, %" PRIu64 " of them at a half; %" PRIu64 " exact, %" PRIu64 " up, %" PRIu64 " down\n",
            cut[ZK_EXACT] + cut[ZK_UP] + cut[ZK_DOWN], halves, cut[ZK_EXACT], cut[ZK_UP], cut[ZK_DOWN]);
 }
@@ -294,7 +294,7 @@ int main(int argc, char **argv) {
     compare_pairs(pairs, &state);
     compare_scalings(pairs, &state);
     compare_splitting(pairs, &state);
-    compare_halves();
+    compare_halves(places_asked(argc, argv));
     return verdict();
 }
 

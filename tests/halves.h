@@ -9,15 +9,15 @@
 #include "operands.h"
 
 /* From 64 places on nothing is kept, and from 65 on nothing goes up. Quotients are few from 58 places on: 32, and fewer. */
-enum { MOST_PLACES = 130, FEW_QUOTIENTS = 58, DRAWN_QUOTIENTS = 8 };
+enum { MOST_PLACES = 130, FEW_QUOTIENTS = 58, DRAWN_QUOTIENTS = 8, STARTS = 5 };
 
 typedef void scaling(int f, struct pattern x, int power);
 
-/* The cases of one format: where they are, and how many of them so far were halves. */
+/* The cases of one format: where they are, and how many of them were halves at each number of places. */
 struct halves {
     int f, places;
     scaling *compare;
-    uint64_t state, found;
+    uint64_t state, found[65];
 };
 
 static inline uint64_t last_digit(int f) {
@@ -28,7 +28,7 @@ static inline int is_half(uint64_t significand, int places) {
     return places >= 1 && places <= 64 && significand << (64 - places) == UINT64_C(1) << 63;
 }
 
-/* The lowest exponent that leaves room for the last one of a significand; often it is a denormal's. */
+/* The lowest exponent that leaves room for the last one of a significand; often it is a denormal's, which is then odd. */
 static inline int lowest_exponent(int f, uint64_t significand) {
     int exponent = formats[f].smallest + 63;
     for (; significand % 2 == 0; significand /= 2)
@@ -36,15 +36,21 @@ static inline int lowest_exponent(int f, uint64_t significand) {
     return exponent;
 }
 
-/* From the lowest exponent, the smallest one of a normal number, 0 and the largest, with both signs. */
+static inline void scale_from(struct halves *h, struct operand o) {
+    h->compare(h->f, encode(h->f, o), formats[h->f].smallest + 63 - o.exponent - h->places);
+    if (is_half(o.significand, h->places))
+        h->found[h->places]++;
+}
+
+/* From the lowest exponent, and where it is above that from the largest of a denormal, the smallest of a normal number, 0 and the largest;
+ * with both signs. */
 static inline void scale_significand(struct halves *h, uint64_t significand) {
-    const struct format *format = &formats[h->f];
-    int from[4] = {lowest_exponent(h->f, significand), 1 - format->bias, 0, format->bias};
-    int i = from[0] == from[1] ? 2 : 0;
-    for (; i < 8; i++) {
+    int bias = formats[h->f].bias, lowest = lowest_exponent(h->f, significand), i;
+    int from[STARTS] = {lowest, -bias, 1 - bias, 0, bias};
+    for (i = 0; i < 2 * STARTS; i++) {
         struct operand o = {i % 2, from[i / 2], significand};
-        h->compare(h->f, encode(h->f, o), format->smallest + 63 - o.exponent - h->places);
-        h->found += is_half(significand, h->places);
+        if (i < 2 || o.exponent > lowest)
+            scale_from(h, o);
     }
 }
 
@@ -93,17 +99,38 @@ static inline void scale_some_quotients(struct halves *h) {
         scale_quotient(h, first | (draw(&h->state) & (first - 2)) | i % 2);
 }
 
-/* Calls `compare` for every number of places. Returns how many of the cases lie at a half. */
-static inline uint64_t around_halves(int f, scaling *compare) {
-    struct halves h = {f, 0, compare, 1, 0};
-    for (h.places = 0; h.places <= MOST_PLACES; h.places++)
-        if (h.places > 64 || h.places <= 64 - formats[f].precision)
-            scale_digits(&h);
-        else if (h.places >= FEW_QUOTIENTS)
-            scale_every_quotient(&h);
-        else
-            scale_some_quotients(&h);
-    return h.found;
+static inline void scale_places(struct halves *h) {
+    if (h->places > 64 || h->places <= 64 - formats[h->f].precision)
+        scale_digits(h);
+    else if (h->places >= FEW_QUOTIENTS)
+        scale_every_quotient(h);
+    else
+        scale_some_quotients(h);
+}
+
+/* How many of the cases lie at a half. A number of places without one, where the format has some, counts as a difference. */
+static inline uint64_t halves_found(const struct halves *h) {
+    uint64_t all = 0;
+    int places;
+    for (places = 65 - formats[h->f].precision; places <= 64; places++) {
+        all += h->found[places];
+        if (h->found[places] == 0 && differs())
+            printf("%s has no half at %d places\n", formats[h->f].name, places);
+    }
+    return all;
+}
+
+/* Calls `compare` for every number of places up to `most`. Returns how many of the cases lie at a half. */
+static inline uint64_t around_halves(int f, int most, scaling *compare) {
+    struct halves h = {f, 0, compare, 1, {0}};
+    for (; h.places <= most; h.places++)
+        scale_places(&h);
+    return halves_found(&h);
+}
+
+/* The third argument of a comparison: how many places at most. */
+static inline int places_asked(int argc, char **argv) {
+    return argc > 3 ? (int)strtol(argv[3], NULL, 10) : MOST_PLACES;
 }
 
 #endif

@@ -3,7 +3,7 @@
  * rounding is held to the result scaled back: a power that lowers a value loses bits, and the way back loses none. binary16, which C has no
  * type for, is scaled as a double that counts its smallest place, and rounded by rint.
  *
- *   ldexp [CASES [SEED]]    CASES of each for each format, then scalings around halves
+ *   ldexp [CASES [SEED [PLACES]]]    CASES of each for each format, then scalings around halves, by up to PLACES places (130)
  */
 #include "halves.h"
 
@@ -174,26 +174,27 @@ static void compare_cut(int f, struct pattern x, int power) {
     compare_scaling(f, x, power, c, "around a half");
 }
 
-static void compare_halves(int f) {
+static void compare_halves(int f, int most) {
     uint64_t halves;
     memset(cut, 0, sizeof cut);
     next_part();
-    halves = around_halves(f, compare_cut);
+    halves = around_halves(f, most, compare_cut);
     printf("%s around halves: %" PRIu64 " scalings, %" PRIu64 " of them at a half; %" PRIu64 " exactly, %" PRIu64 " up, %" PRIu64 " down\n",
            formats[f].name, cut[ZK_EXACT] + cut[ZK_UP] + cut[ZK_DOWN], halves, cut[ZK_EXACT], cut[ZK_UP], cut[ZK_DOWN]);
 }
 
 int main(int argc, char **argv) {
     uint64_t cases = pairs_asked(argc, argv, 1000000), seed = seed_asked(argc, argv);
+    int most = places_asked(argc, argv);
     compare_format(BINARY16, cases, seed);
     compare_format(BINARY32, cases, seed);
     compare_format(BINARY64, cases, seed);
-    compare_halves(BINARY16);
-    compare_halves(BINARY32);
-    compare_halves(BINARY64);
+    compare_halves(BINARY16, most);
+    compare_halves(BINARY32, most);
+    compare_halves(BINARY64, most);
 #ifdef ZK_LONG_DOUBLE_IS_X87
     compare_format(X87, cases, seed);
-    compare_halves(X87);
+    compare_halves(X87, most);
 #else
     printf("x87: long double is another format here, not compared\n");
 #endif

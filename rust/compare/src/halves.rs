@@ -53,12 +53,14 @@ fn cases(layout: &Layout, most: u64, draw: &mut Draw) -> Vec<Case> {
     cases
 }
 
-/// One significand, with its leading one at the lowest place that has room for all digits, at that
-/// of the smallest normal number, of 1 and of the largest number, with both signs.
+/// One significand, with its leading one at the lowest place that has room for all digits, where
+/// that is not higher at the largest denormal's, at that of the smallest normal number, of 1 and of
+/// the largest number, with both signs.
 fn scalings(layout: &Layout, significand: u64, places: u64) -> Vec<Case> {
     let lowest = 63 - u64::from(significand.trailing_zeros());
+    let normal = layout.precision - 1;
     let one = layout.top() - layout.ones() / 2;
-    let from = BTreeSet::from([lowest, layout.precision - 1, one, layout.top()]);
+    let from = BTreeSet::from([lowest, lowest.max(normal - 1), normal, one, layout.top()]);
     let is_half = places <= 64 && (u128::from(significand) << (64 - places)) as u64 == LEADING;
     let scaled = |place: u64| {
         [0, 1].map(|sign| Case {

@@ -68,7 +68,7 @@ add-rounded c = rw (power c) (omega (arith, left-over c))
 rounded-requires-3 : tie.Need-rounded-requires-3
 rounded-requires-3 c κs = rw (power c) (λ h. omega (arith, round-room (c .before .before .args .n) (c .before .before .args .places) h))
 
--- the number that is compared with the half may be written otherwise: it is found by its value
+-- the number compared with the half is found by its value: its terms may be exchanged, or shifted forth and back
 returns-3 : tie.Need-returns-3
 returns-3 c =
     let a = c .before .before .before .args in
