@@ -237,26 +237,17 @@ uint8_t zk_run80(uint64_t x, uint16_t xw, uint64_t y, uint16_t yw, uint32_t size
  * has more than a quarter left over if it then goes up. By a power from 0 on nothing is cut.
  */
 
-static uint8_t said16(uint16_t x, int32_t power) {
-    uint16_t value;
-    uint8_t says = ZK_DOWN;
-    real_zk_scale16(x, power, &value, &says);
-    return says;
-}
+#define SAID(NAME, SCALE, TYPE)                       \
+    static uint8_t NAME(TYPE x, int32_t power) {      \
+        TYPE value;                                   \
+        uint8_t says = ZK_DOWN;                       \
+        SCALE(x, power, &value, &says);               \
+        return says;                                  \
+    }
 
-static uint8_t said32(uint32_t x, int32_t power) {
-    uint32_t value;
-    uint8_t says = ZK_DOWN;
-    real_zk_scale32(x, power, &value, &says);
-    return says;
-}
-
-static uint8_t said64(uint64_t x, int32_t power) {
-    uint64_t value;
-    uint8_t says = ZK_DOWN;
-    real_zk_scale64(x, power, &value, &says);
-    return says;
-}
+SAID(said16, real_zk_scale16, uint16_t)
+SAID(said32, real_zk_scale32, uint32_t)
+SAID(said64, real_zk_scale64, uint64_t)
 
 static uint8_t said80(uint64_t x, uint16_t xw, int32_t power) {
     uint64_t value;
