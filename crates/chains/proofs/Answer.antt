@@ -6,7 +6,7 @@ use mathlib.Core.List.{[], _∷_, _++_}
 use Prim.Native.Nat.{ℕ, zero, suc, _<_}
 use Rattle.digits.proofs.Tests.{clash, not-zero}
 use Rattle.definitions.specs.Class.{Value, finite}
-use Rattle.definitions.specs.Format.{Format, Representable, classOf, patternOf, patterns, x87}
+use Rattle.definitions.specs.Format.{Format, Representable, classOf, patternOf, ordinary, x87}
 use Rattle.definitions.specs.Numbers.{check, first, accepted, dividing}
 use Rattle.definitions.specs.declared.Kind.{Kind}
 use Rattle.definitions.specs.Division.{Outcome, by, finish, dividendOf, divisorOf}
@@ -15,7 +15,7 @@ use Rattle.definitions.specs.Steps.{followed}
 use Rattle.definitions.specs.Reports.{Report, Lent, fitting, sized, calling, reportOf, stepReport, runReport}
 use Rattle.definitions.specs.Calls.{Call, step, run, answer, budgetOf, taken, Gives, EachCall, valueAt}
 use Rattle.laws.proofs.Regular.{regular80}
-use Rattle.laws.proofs.RoundTrip.{read-written, read-held, written-read}
+use Rattle.laws.proofs.RoundTrip.{read-written, read-held, pattern-ordinary}
 use Rattle.laws.proofs.Division.{cut-held, finish-held}
 use Rattle.chains.proofs.Step.{step-cases, step-one}
 use Rattle.chains.proofs.Run.{run-one}
@@ -104,27 +104,29 @@ run-held f κ n (suc b) m x p hm hx = go (s .done) (step-held f κ n m x p hm hx
     go true h k = h
     go false h k = k h
 
--- the x87 pattern x is read as the value v, and v is written as x
-pub record Written (x : ℕ) (v : Value) : Type 0 where
-  pub read : classOf x87 x ≡ finite v
-  pub held : Representable x87 (v .count)
-  pub pattern : patternOf x87 (finite v) ≡ x
-
-pub finite-written : (x : ℕ) (v : Value) → x < patterns x87 → classOf x87 x ≡ finite v → Written x v
-finite-written x v l e = record { read = e; held = read-held x87 regular80 x v e; pattern = written-read x87 regular80 x v l e }
-
-pub value-written : (v : Value) → Representable x87 (v .count) → Written (patternOf x87 (finite v)) v
-value-written v h = record { read = read-written x87 regular80 v h; held = h; pattern = refl }
-
--- a state of a list: a pattern of the value that it stands for
+-- a state of a list: a pattern that stands for a value
 abbrev pub State : ℕ → Type 0
-State x = Written x (valueAt x)
+State x = classOf x87 x ≡ finite (valueAt x)
 
-pub written-value : {x : ℕ} {v : Value} → Written x v → valueAt x ≡ v
-written-value h = ap dividendOf (h .read)
+pub read-state : (x : ℕ) (v : Value) → classOf x87 x ≡ finite v → State x
+read-state x v e = e ∙ ap finite (sym (ap dividendOf e))
 
-pub written-state : {x : ℕ} {v : Value} → Written x v → State x
-written-state {x} h = subst (Written x) (sym (written-value h)) h
+-- what a call returns is the ordinary pattern of a value
+pub record Returned (x : ℕ) : Type 0 where
+  pub state : State x
+  pub pattern : patternOf x87 (finite (valueAt x)) ≡ x
+  pub ordinary : ordinary x87 x ≡ true
+
+value-back : (v : Value) → Representable x87 (v .count) → valueAt (patternOf x87 (finite v)) ≡ v
+value-back v h = ap dividendOf (read-written x87 regular80 v h)
+
+value-returned : (v : Value) → Representable x87 (v .count) → Returned (patternOf x87 (finite v))
+value-returned v h =
+    record {
+      state = read-state (patternOf x87 (finite v)) v (read-written x87 regular80 v h);
+      pattern = ap (λ (u : Value). patternOf x87 (finite u)) (value-back v h);
+      ordinary = pattern-ordinary x87 regular80 v h;
+    }
 
 -- ---- what an accepted call tells
 
@@ -132,35 +134,42 @@ module _ (κ : Kind) (m : ℕ) (p : 0 < m) (hm : Representable x87 m) (c : Call)
   outcome : Outcome
   outcome = callOutcome κ m c (valueAt x)
 
-  reached : Written (patternOf x87 (finite (outcome .value))) (outcome .value)
+  reached : Representable x87 (outcome .value .count)
   unfolding outcome
-  reached = value-written (outcome .value) (run-held x87 κ (sizeOf c) (budgetOf c) m (valueAt x) p hm (h .held))
+  reached = run-held x87 κ (sizeOf c) (budgetOf c) m (valueAt x) p hm (read-held x87 regular80 x (valueAt x) h)
 
   report-tells : (n : ℕ) → sized (sizeOf c) ≡ true → n ≡ cond (outcome .done) 0 (openNumber c) → accepted n ≡ true
-      → Tells valueAt κ m c x (reportOf n outcome) × State (reportOf n outcome .value)
+      → Tells valueAt κ m c x (reportOf n outcome) × Returned (reportOf n outcome .value)
   unfolding outcome
   report-tells n z e a =
-      rw a (record { size = z; number = e; reached = written-value reached; quotient = refl; steps = refl }, written-state reached)
+      rw a (record { size = z; number = e; reached = value-back (outcome .value) reached; quotient = refl; steps = refl }, value-returned (outcome .value) reached)
 
   number-tells : (f s : Bool) → sized (sizeOf c) ≡ s → let n = cond f (cond s (cond (outcome .done) 0 (openNumber c)) 6) 9 in
-      accepted n ≡ true → Tells valueAt κ m c x (reportOf n outcome) × State (reportOf n outcome .value)
+      accepted n ≡ true → Tells valueAt κ m c x (reportOf n outcome) × Returned (reportOf n outcome .value)
   number-tells true true z a = report-tells (cond (outcome .done) 0 (openNumber c)) z refl a
   number-tells true false z a = clash (cc)
   number-tells false s z a = clash (cc)
 
-pub answer-tells : (κ : Kind) (y : ℕ) (w : Value) → classOf x87 y ≡ finite w → 0 < w .count → Telling valueAt State κ (w .count) (answer κ y)
-unfolding outcome
-answer-tells κ y w e p c x h =
-    subst (λ (r : Report ℕ). accepted (r .number) ≡ true → Tells valueAt κ (w .count) c x r × State (r .value))
-    (sym (answer-is κ c x y (valueAt x) w (h .read) e p))
-    (number-tells κ (w .count) p (read-held x87 regular80 y w e) c x h (fitting (lentOf c)) (sized (sizeOf c)) refl)
+module _ (κ : Kind) (y : ℕ) (w : Value) (ey : classOf x87 y ≡ finite w) (p : 0 < w .count) where
+  told : (c : Call) (x : ℕ) → State x → accepted (answer κ y c x .number) ≡ true → Tells valueAt κ (w .count) c x (answer κ y c x) × Returned (answer κ y c x .value)
+  unfolding outcome
+  told c x h =
+      subst (λ (r : Report ℕ). accepted (r .number) ≡ true → Tells valueAt κ (w .count) c x r × Returned (r .value))
+      (sym (answer-is κ c x y (valueAt x) w h ey p))
+      (number-tells κ (w .count) p (read-held x87 regular80 y w ey) c x h (fitting (lentOf c)) (sized (sizeOf c)) refl)
+
+  pub answer-tells : Telling valueAt State κ (w .count) (answer κ y)
+  answer-tells c x h a = let b = told c x h a in (b .0, b .1 .state)
+
+  pub answer-returned : (c : Call) (x : ℕ) → State x → accepted (answer κ y c x .number) ≡ true → Returned (answer κ y c x .value)
+  answer-returned c x h a = told c x h a .1
 
 -- ---- what is claimed of each call
 
 module _ (κ : Kind) (y : ℕ) (w : Value) (ey : classOf x87 y ≡ finite w) (p : 0 < w .count) where
   answer-taken : (c : Call) (x : ℕ) → State x → accepted (answer κ y c x .number) ≡ taken c
   answer-taken c x h =
-      ap (λ (r : Report ℕ). accepted (r .number)) (answer-is κ c x y (valueAt x) w (h .read) ey p)
+      ap (λ (r : Report ℕ). accepted (r .number)) (answer-is κ c x y (valueAt x) w h ey p)
       ∙ number-taken c (callOutcome κ (w .count) c (valueAt x) .done)
 
   pub answer-each : (c : Call) (x : ℕ) → State x → EachCall κ y (record { call = c; handed = x; report = answer κ y c x })

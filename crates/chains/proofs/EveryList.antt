@@ -1,22 +1,22 @@
 -- [5.9] the one claim over all lists of step and run calls on x87 patterns. Assumes nothing.
 use mathlib.Core.Path.{_≡_, refl, sym, ap, _∙_, subst}
 use mathlib.Core.Bool.{Bool, true, false, cond}
-use mathlib.Core.List.{List}
+use mathlib.Core.List.{List, []}
 use Prim.Native.Nat.{ℕ, _<_}
 use Rattle.definitions.specs.Class.{Value, finite}
-use Rattle.definitions.specs.Format.{classOf, patternOf, patterns, x87}
+use Rattle.definitions.specs.Format.{classOf, patternOf, x87}
 use Rattle.definitions.specs.declared.Kind.{Kind}
-use Rattle.definitions.specs.Division.{Outcome, by, finish}
+use Rattle.definitions.specs.Division.{Outcome, by, finish, dividendOf}
 use Rattle.definitions.specs.Remainder.{quotientBits}
 use Rattle.definitions.specs.Steps as Steps
 use Rattle.definitions.specs.Reports.{Report, nothing, sized, reportOf, runReport}
-use Rattle.definitions.specs.Calls.{Call, run, answer, Made, made, answers, lastValue, finished, totalSteps, totalQuotient, totalBudget, Listed, EachCall, All, valueAt, EveryList}
+use Rattle.definitions.specs.Calls.{Call, run, answer, Made, made, answers, lastValue, finished, totalSteps, totalQuotient, totalBudget, Some, Listed, EachCall, All, valueAt, EveryList}
 use Rattle.laws.proofs.Remainder.{remainder-is}
 use Rattle.chains.proofs.Outcome.{sound-finished, sound-bound, sound-ends}
 use Rattle.chains.proofs.Exact.{accounts-exact, accounts-whole}
-use Rattle.chains.proofs.Made.{listed-made, finished-last, totals}
-use Rattle.chains.proofs.Lists.{ListTells, list-good, list-each, list-tells}
-use Rattle.chains.proofs.Answer.{answer-is, State, finite-written, written-value, written-state, answer-tells, answer-each}
+use Rattle.chains.proofs.Made.{listed-made, finished-last, finished-some, totals}
+use Rattle.chains.proofs.Lists.{ListTells, list-last, list-each, list-tells}
+use Rattle.chains.proofs.Answer.{answer-is, State, Returned, read-state, answer-tells, answer-returned, answer-each}
 
 -- what an accepted run reports
 abbrev runTells : Outcome → Report ℕ
@@ -53,11 +53,19 @@ module _ (κ : Kind) (x y : ℕ) (w : Value) (cs : List Call) (ts : List (Made �
   all-done : finished ts ≡ told .outcome .done
   all-done = totals κ y ts each .finished ∙ told .done
 
-  -- the last value's pattern
-  last : (u : Value) → told .outcome .value ≡ u → patternOf x87 (finite u) ≡ lastValue x (answers ts)
-  last u e =
-      ap (λ (z : Value). patternOf x87 (finite z)) (sym (told .reached ∙ e))
-      ∙ list-good valueAt State κ w (answer κ y) p (answer-tells κ y w ey p) listed sx .pattern
+  -- the last value that a call returned
+  returned : Some (answers ts) → Returned (lastValue x (answers ts))
+  returned = list-last valueAt State κ w (answer κ y) p (answer-tells κ y w ey p) Returned (answer-returned κ y w ey p) listed sx
+
+  last : Some (answers ts) → (u : Value) → told .outcome .value ≡ u → patternOf x87 (finite u) ≡ lastValue x (answers ts)
+  last s u e = ap (λ (z : Value). patternOf x87 (finite z)) (sym (told .reached ∙ e)) ∙ returned s .pattern
+
+  some-accepted : finished ts ≡ true → Some (answers ts)
+  some-accepted f = finished-some (answers ts) (sym (totals κ y ts each .finished) ∙ f)
+
+  given : answers ts ≡ [] → lastValue x (answers ts) ≡ x
+  unfolding lastValue
+  given e = rw e
 
   claim : EveryList κ x y (valueAt x) w cs ts
   claim =
@@ -73,17 +81,18 @@ module _ (κ : Kind) (x y : ℕ) (w : Value) (cs : List Call) (ts : List (Made �
         ends = λ l. all-done ∙ sound-ends κ m (valueAt x) r (told .sound) (rw all-steps at l);
         whole = λ f.
             let e = sound-finished κ m (valueAt x) r (told .sound) (sym all-done ∙ f) in
-            remainder-is x87 κ x y (valueAt x) w (sx .read) ey p
-            ∙ (λ i. record { number = 0; value = last (finish κ (by m) (valueAt x) .value) (e .value) i; quotient = (ap quotientBits (sym (e .whole)) ∙ sym all-quotient) i });
+            remainder-is x87 κ x y (valueAt x) w sx ey p
+            ∙ (λ i. record { number = 0; value = last (some-accepted f) (finish κ (by m) (valueAt x) .value) (e .value) i; quotient = (ap quotientBits (sym (e .whole)) ∙ sym all-quotient) i });
+        given = given;
+        returned = λ s. returned s .ordinary;
         exact = rw (told .reached) (accounts-exact (told .account));
         one = λ n rs s.
-            run-is κ n (totalBudget (answers ts)) x y (valueAt x) w (sx .read) ey p (told .size n rs s) ∙ ap runTells (sym (told .one n rs))
-            ∙ (λ i. record { number = sym (told .number n rs) i; value = last (r .value) refl i; quotient = sym all-quotient i; steps = sym all-steps i });
+            run-is κ n (totalBudget (answers ts)) x y (valueAt x) w sx ey p (told .size n rs s) ∙ ap runTells (sym (told .one n rs))
+            ∙ (λ i. record { number = sym (told .number n rs) i; value = last s (r .value) refl i; quotient = sym all-quotient i; steps = sym all-steps i });
       }
 
-pub every-list : (κ : Kind) (x y : ℕ) (v w : Value) (cs : List Call) → x < patterns x87 → classOf x87 x ≡ finite v
-    → classOf x87 y ≡ finite w → 0 < w .count → EveryList κ x y v w cs (made (answer κ y) cs x)
-every-list κ x y v w cs lx ex ey p =
-    let h = finite-written x v lx ex in
+pub every-list : (κ : Kind) (x y : ℕ) (v w : Value) (cs : List Call) → classOf x87 x ≡ finite v → classOf x87 y ≡ finite w
+    → 0 < w .count → EveryList κ x y v w cs (made (answer κ y) cs x)
+every-list κ x y v w cs ex ey p =
     let ts = made (answer κ y) cs x in
-    subst (λ (u : Value). EveryList κ x y u w cs ts) (written-value h) (claim κ x y w cs ts (listed-made (answer κ y) cs x) (written-state h) ey p)
+    subst (λ (u : Value). EveryList κ x y u w cs ts) (ap dividendOf ex) (claim κ x y w cs ts (listed-made (answer κ y) cs x) (read-state x v ex) ey p)

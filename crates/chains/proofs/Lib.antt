@@ -11,3 +11,4 @@ pub mod Continued
 pub mod Infinite
 pub mod Flags
 pub mod Small
+pub mod Ordinary

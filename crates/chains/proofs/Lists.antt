@@ -168,12 +168,21 @@ answers-accepted t ts e = rw e
 
 -- whatever calls follow the four rules
 module _ {A : Type 0} (value : A → Value) (Good : A → Type 0) (κ : Kind) (w : Value) (f : Call → A → Report A) (p : 0 < w .count) (t : Telling value Good κ (w .count) f) where
-  pub list-good : {x : A} {cs : List Call} {ts : List (Made A)} → Listed f x cs ts → Good x → Good (lastValue x (answers ts))
-  unfolding answers lastValue
-  list-good none g = g
-  list-good (refused e l) g = rw e (list-good l g)
-  list-good (ends {x} {c} e) g = rw e (t c x g (rw e) .1)
-  list-good (goesOn {x} {c} e d l) g = rw e (list-good l (t c x g e .1))
+  -- what every accepted call leads to is the last value too, if a call was accepted
+  module _ (P : A → Type 0) (h : (c : Call) (x : A) → Good x → accepted (f c x .number) ≡ true → P (f c x .value)) where
+    list-kept : {x : A} {cs : List Call} {ts : List (Made A)} → Listed f x cs ts → Good x → P x → P (lastValue x (answers ts))
+    unfolding answers lastValue
+    list-kept none g k = k
+    list-kept (refused e l) g k = rw e (list-kept l g k)
+    list-kept (ends {x} {c} e) g k = rw e (h c x g (rw e))
+    list-kept (goesOn {x} {c} e d l) g k = rw e (list-kept l (t c x g e .1) (h c x g e))
+
+    pub list-last : {x : A} {cs : List Call} {ts : List (Made A)} → Listed f x cs ts → Good x → Some (answers ts) → P (lastValue x (answers ts))
+    unfolding answers lastValue
+    list-last none g s = absurd s
+    list-last (refused e l) g s = rw e (list-last l g (rw e at s))
+    list-last (ends {x} {c} e) g s = rw e (h c x g (rw e))
+    list-last (goesOn {x} {c} e d l) g s = rw e (list-kept l (t c x g e .1) (h c x g e))
 
   -- what holds of every call on a state that is Good holds of each call
   pub list-each : (P : Made A → Type 0) → ((c : Call) (x : A) → Good x → P (record { call = c; handed = x; report = f c x }))

@@ -12,7 +12,7 @@ use Rattle.definitions.specs.Numbers.{accepted}
 use Rattle.definitions.specs.declared.Kind.{Kind}
 use Rattle.definitions.specs.Remainder.{quotientModulus, quotientBits}
 use Rattle.definitions.specs.Reports.{Report}
-use Rattle.definitions.specs.Calls.{Call, Made, made, answers, lastNumber, finished, totalSteps, totalQuotient, Listed, none, refused, ends, goesOn, EachCall, All}
+use Rattle.definitions.specs.Calls.{Call, Made, made, answers, lastNumber, finished, totalSteps, totalQuotient, Some, Listed, none, refused, ends, goesOn, EachCall, All}
 
 -- [5.2, 5.4] the four rules
 pub listed-made : (f : Call → ℕ → Report ℕ) (cs : List Call) (x : ℕ) → Listed f x cs (made f cs x)
@@ -52,6 +52,12 @@ finished-last f n h none = sym h
 finished-last f n h (refused {x} {c} e l) = rw (e, refused-some (f c x .number) e) (finished-last f n h l)
 finished-last f n h (ends {x} {c} e) = rw e
 finished-last f n h (goesOn {x} {c} e d l) = rw (e, d) (finished-last f (f c x .number) d l)
+
+-- so that it has an accepted call
+pub finished-some : (ts : List (Made ℕ)) → finished ts ≡ true → Some ts
+unfolding finished
+finished-some [] e = clash (cc)
+finished-some (t ∷ ts) e = tt
 
 pub totals : (κ : Kind) (y : ℕ) (ts : List (Made ℕ)) → All (EachCall κ y) ts → Totals ts (answers ts)
 unfolding answers totalSteps totalQuotient finished

@@ -1,11 +1,12 @@
--- What a step or a run reports fits where it is written: its value is an x87 pattern, and its quotient bits are a byte. Assumes nothing.
+-- What a step or a run reports fits where it is written: its value is an x87 pattern, an ordinary one, and its quotient bits are a byte.
+-- Assumes nothing.
 use mathlib.Core.Path.{_≡_, refl, subst}
 use mathlib.Core.Bool.{Bool, true, false, not, cond}
 use Prim.Native.Nat.{ℕ, _<_}
 use native.Mathlib.Omega.{arith}
 use lib.Dec.{lit<}
 use Rattle.definitions.specs.Class.{Value, Class, unsupported, nan, infinite, finite}
-use Rattle.definitions.specs.Format.{Representable, classOf, patternOf, patterns, x87}
+use Rattle.definitions.specs.Format.{Representable, classOf, patternOf, patterns, ordinary, x87}
 use Rattle.definitions.specs.Numbers.{first, accepted, isZero}
 use Rattle.definitions.specs.Remainder.{quotientBits, refusedValue}
 use Rattle.definitions.specs.declared.Kind.{Kind}
@@ -14,13 +15,15 @@ use Rattle.definitions.specs.Steps.{run}
 use Rattle.definitions.specs.Reports.{Report, Lent, sized, reportOf, stepReport, runReport}
 use Rattle.laws.proofs.Regular.{regular80}
 use Rattle.laws.proofs.Representable.{zero-held}
-use Rattle.laws.proofs.RoundTrip.{pattern-small, read-held, house-nan-small}
+use Rattle.laws.proofs.RoundTrip.{read-held}
+use Rattle.laws.proofs.Results.{Result, result-small, result-ordinary, refused-result, value-result}
 use Rattle.chains.proofs.Run.{run-one}
 use Rattle.chains.proofs.Spent.{Judgement, refused, passed, numbered, result}
 use Rattle.chains.proofs.Continued.{held}
 
 pub record Small (r : Report ℕ) : Type 0 where
   pub value : r .value < patterns x87
+  pub ordinary : ordinary x87 (r .value) ≡ true
   pub quotient : r .quotient < 256
 
 -- quotient bits are few
@@ -28,13 +31,23 @@ bits-small : (q : ℕ) → quotientBits q < 256
 bits-small q = omega arith
 
 -- an answer of a representable value, and a refusal
-of-answer : (t : Bool) (v : Value) (q : ℕ) → Representable x87 (v .count)
-    → (cond t (patternOf x87 (finite v)) (refusedValue x87) < patterns x87) × (cond t (quotientBits q) 0 < 256)
-of-answer true v q h = (pattern-small x87 regular80 v h, bits-small q)
-of-answer false v q h = (house-nan-small x87 regular80, lit< tt)
+of-result : (n : ℕ) (r : Outcome) → Result x87 (reportOf n r .value) → Small (reportOf n r)
+of-result n r k =
+    record { value = result-small x87 regular80 k; ordinary = result-ordinary x87 regular80 k; quotient = go (accepted n) }
+  where
+    go : (t : Bool) → cond t (quotientBits (r .whole)) 0 < 256
+    go true = bits-small (r .whole)
+    go false = lit< tt
+
+of-answer : (n : ℕ) (r : Outcome) → Representable x87 (r .value .count) → Small (reportOf n r)
+of-answer n r h = of-result n r (go (accepted n))
+  where
+    go : (t : Bool) → Result x87 (cond t (patternOf x87 (finite (r .value))) (refusedValue x87))
+    go true = value-result x87 (r .value) h
+    go false = refused-result x87
 
 of-refusal : (n : ℕ) (r : Outcome) → accepted n ≡ false → Small (reportOf n r)
-of-refusal n r e = rw e (record { value = house-nan-small x87 regular80; quotient = lit< tt })
+of-refusal n r e = of-result n r (rw e (refused-result x87))
 
 -- the dividend that an operand gives is representable
 dividend-held : (x : ℕ) (X : Class) → classOf x87 x ≡ X → Representable x87 (dividendOf X .count)
@@ -59,9 +72,7 @@ module _ (l : Lent) (κ : Kind) (n x y : ℕ) where
 
       go : Judgement (not (sized n)) (isZero Y) (numbered l n X Y) → Small (reportOf (numbered l n X Y k) r)
       go (refused q a o s e) = rw (e k) (of-refusal q r a)
-      go (passed i z e) =
-          let h = of-answer (accepted (numbered l n X Y k)) (r .value) (r .whole) (held κ n b y Y (dividendOf X) refl z (dividend-held x X refl)) in
-          record { value = h .0; quotient = h .1 }
+      go (passed i z e) = of-answer (numbered l n X Y k) r (held κ n b y Y (dividendOf X) refl z (dividend-held x X refl))
 
   pub run-small : (b : ℕ) → Small (runReport l κ n b x y)
   unfolding runReport first

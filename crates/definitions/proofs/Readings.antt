@@ -1,13 +1,15 @@
 -- The readings, computed from the definitions. Assumes nothing.
 use mathlib.Core.Path.{_≡_, refl}
+use mathlib.Core.Bool.{true, false}
+use mathlib.Core.List.{[], _∷_, map}
 use lib.Ieee.{size}
 use Rattle.definitions.specs.Class.{gap}
-use Rattle.definitions.specs.Format.{classOf, patternOf, magnitude, houseNan, binary16, binary32, binary64, x87}
+use Rattle.definitions.specs.Format.{classOf, patternOf, magnitude, ordinary, houseNan, binary16, binary32, binary64, x87}
 use Rattle.definitions.specs.Numbers.{first}
 use Rattle.definitions.specs.Division.{finish}
 use Rattle.definitions.specs.Steps.{step, run}
 use Rattle.definitions.specs.Table.{computed, readings, longReadings, allComputed, allExpected}
-use Rattle.definitions.specs.Samples.{refusals, answered}
+use Rattle.definitions.specs.Samples.{refusals, answered, pseudoDenormals}
 
 -- readings 1 to 10
 pub readings-hold : allComputed readings ≡ allExpected readings
@@ -27,6 +29,28 @@ refusals-hold = refl
 pub answered-hold : allComputed answered ≡ allExpected answered
 unfolding computed answered size gap classOf patternOf magnitude first finish step run
 answered-hold = refl
+
+-- pseudo-denormals
+pub pseudo-denormals-hold : allComputed pseudoDenormals ≡ allExpected pseudoDenormals
+unfolding computed pseudoDenormals size gap classOf patternOf magnitude first finish step run
+pseudo-denormals-hold = refl
+
+-- [2.10] which patterns are ordinary: around the field 0, at both of its ends and with either sign; in another format all of them
+pub ordinary-patterns : (map (ordinary x87)
+    (0x00000000000000000000
+    ∷ 0x00007FFFFFFFFFFFFFFF
+    ∷ 0x00008000000000000000
+    ∷ 0x0000FFFFFFFFFFFFFFFF
+    ∷ 0x80008000000000000000
+    ∷ 0x8000FFFFFFFFFFFFFFFF
+    ∷ 0x00018000000000000000
+    ∷ 0x80018000000000000000
+    ∷ 0x7FFFC000000000000000
+    ∷ [])
+    ≡ true ∷ true ∷ false ∷ false ∷ false ∷ false ∷ true ∷ true ∷ true ∷ [])
+    × (map (ordinary binary16) (0x0000 ∷ 0x03FF ∷ 0x0400 ∷ 0x8000 ∷ 0x83FF ∷ 0x7E00 ∷ []) ≡ true ∷ true ∷ true ∷ true ∷ true ∷ true ∷ [])
+unfolding ordinary
+ordinary-patterns = (refl, refl)
 
 -- [2.9] the house NaNs
 pub house-nans : (houseNan binary16 ≡ 0x7E00) × (houseNan binary32 ≡ 0x7FC00000) × (houseNan binary64 ≡ 0x7FF8000000000000) × (houseNan x87 ≡ 0x7FFFC000000000000000)

@@ -1,7 +1,7 @@
 -- [7.5] what every refusal of a call on patterns tells, and the number of every class: said once, over all operations and formats.
 -- Assumes nothing.
 use mathlib.Core.Path.{_≡_, refl}
-use mathlib.Core.Bool.{Bool, true, false, not, cond, _&&_, _||_, Bool·beq}
+use mathlib.Core.Bool.{Bool, true, false, not, cond, _&&_, _||_}
 use mathlib.Core.List.{List, [], _∷_, map}
 use Prim.Native.Nat.{ℕ, zero, suc, _+_, _/_, _%_, _^_, _<_}
 use native.Mathlib.Omega.{arith}
@@ -168,8 +168,8 @@ sizes k =
 pub lent-blocks : (held : List ℕ) → fitting (lending held) ≡ eqb (length held) 16
 lent-blocks held = refl
 
--- [2.6] an x87 pattern is unsupported if its leading digit is there with the field 0, or missing with any other
-pub unsupported-patterns : (b : ℕ) → isUnsupported (classOf x87 b) ≡ Bool·beq (leb (2 ^ 63) (b % 2 ^ 64)) (eqb (b / 2 ^ 64 % 2 ^ 15) 0)
+-- [2.6] an x87 pattern is unsupported if its leading digit is missing and its field is not 0
+pub unsupported-patterns : (b : ℕ) → isUnsupported (classOf x87 b) ≡ not (leb (2 ^ 63) (b % 2 ^ 64)) && not (eqb (b / 2 ^ 64 % 2 ^ 15) 0)
 unfolding classOf
 unsupported-patterns b = go (leb (2 ^ 63) s) (eqb e 0) (eqb e (topField x87)) (eqb s (2 ^ 63)) _ _ _
   where
@@ -180,7 +180,7 @@ unsupported-patterns b = go (leb (2 ^ 63) s) (eqb e 0) (eqb e (topField x87)) (e
     e = b / 2 ^ 64 % 2 ^ 15
 
     go : (J z t i n : Bool) (v w : Value)
-        → isUnsupported (cond z (cond J unsupported (finite v)) (cond J (cond t (cond i (infinite n) nan) (finite w)) unsupported)) ≡ Bool·beq J z
+        → isUnsupported (cond z (finite v) (cond J (cond t (cond i (infinite n) nan) (finite w)) unsupported)) ≡ not J && not z
     go true true t i n v w = refl
     go false true t i n v w = refl
     go true false true true n v w = refl

@@ -8,7 +8,7 @@ use lib.Dec.{eqb}
 use lib.ListN.{length}
 use lib.IntN.{natAbs, _+ℤ_, _*ℤ_}
 use Rattle.definitions.specs.Class.{Value, valueOf, gap}
-use Rattle.definitions.specs.Format.{classOf, x87}
+use Rattle.definitions.specs.Format.{classOf, ordinary, x87}
 use Rattle.definitions.specs.Numbers.{accepted}
 use Rattle.definitions.specs.declared.Kind.{Kind}
 use Rattle.definitions.specs.Division.{Divisor, by, dividendOf}
@@ -170,6 +170,9 @@ pub record EveryList (κ : Kind) (x y : ℕ) (v w : Value) (cs : List Call) (ts 
   pub ends : mostSteps (gap (v .count) (w .count)) ≤ totalSteps ts → finished ts ≡ true
   -- [5.7]
   pub whole : finished ts ≡ true → remainder x87 κ x y ≡ record { number = 0; value = lastValue x (answers ts); quotient = totalQuotient ts }
+  -- [5.2, 2.10] the last value is the dividend as it was given where no call was accepted, and else an ordinary pattern
+  pub given : answers ts ≡ [] → lastValue x (answers ts) ≡ x
+  pub returned : Some (answers ts) → ordinary x87 (lastValue x (answers ts)) ≡ true
   -- [4.10]
   pub exact : valueOf v ≡ valueOf (valueAt (lastValue x (answers ts))) +ℤ valueOf w *ℤ partsSum w (links κ w ts)
   -- [5.8]

@@ -2,7 +2,7 @@
 -- times 2 ^ 64, plus its significand. Definitions only.
 use Prim.Native.Nat.{ℕ, _+_, _-_, _*_, _/_, _%_, _^_, _≤_}
 use mathlib.Core.Path.{_≡_}
-use mathlib.Core.Bool.{Bool, cond}
+use mathlib.Core.Bool.{Bool, not, cond, _&&_}
 use lib.Dec.{leb, eqb}
 use lib.IntN.{ℤ, pos, negsuc, _+ℤ_}
 use lib.Ieee.{size}
@@ -67,11 +67,11 @@ hiddenClass f n e s =
     cond (eqb e (topField f)) (cond (eqb s 0) (infinite n) nan)
     (finite (record { negative = n; count = cond (eqb e 0) s ((leading f + s) * 2 ^ (e - 1)) }))
 
--- [2.4, 2.5, 2.6] the same with an explicit leading digit J
+-- [2.4, 2.5, 2.6] the same with an explicit leading digit J, which the field 0 may have too
 abbrev pub explicitClass : Format → Bool → ℕ → ℕ → Class
 explicitClass f n e s =
     let J = leb (leading f) s in
-    cond (eqb e 0) (cond J unsupported (finite (record { negative = n; count = s })))
+    cond (eqb e 0) (finite (record { negative = n; count = s }))
     (cond J
     (cond (eqb e (topField f)) (cond (eqb s (leading f)) (infinite n) nan) (finite (record { negative = n; count = s * 2 ^ (e - 1) })))
     unsupported)
@@ -118,6 +118,14 @@ patternOf f unsupported = houseNan f
 patternOf f nan = houseNan f
 patternOf f (infinite n) = withSign f n (infinityBody f)
 patternOf f (finite v) = withSign f (v .negative) (magnitude f (v .count))
+
+-- [2.10] a pattern is ordinary, unless it shows a leading digit with the field 0
+unfoldable pub ordinary : Format → ℕ → Bool
+ordinary f b = not (eqb (b / fieldWeight f % (topField f + 1)) 0 && leb (leading f) (b % fieldWeight f))
+
+-- [2.10] the ordinary pattern of what a pattern stands for
+abbrev pub ordinaryOf : Format → ℕ → ℕ
+ordinaryOf f b = patternOf f (classOf f b)
 
 -- [2.7] the exponent of a count that is not zero
 abbrev pub exponentOf : Format → ℕ → ℤ

@@ -7,21 +7,21 @@ use mathlib.Core.List.{List, [], _∷_}
 use lib.IntN.{pos, negsuc}
 use Rattle.definitions.specs.Format.{binary16, binary32, binary64, x87}
 use Rattle.definitions.specs.declared.Kind.the-variants.{Truncated, Nearest}
-use Rattle.definitions.specs.declared.Rounding.the-variants.{Exact}
+use Rattle.definitions.specs.declared.Rounding.the-variants.{Exact, Down}
 use Rattle.definitions.specs.Reports.{nothing, block}
-use Rattle.definitions.specs.Table.{Reading, reading, divide, step, run, scale, split, value, steps, scaled, parts}
+use Rattle.definitions.specs.Table.{Reading, reading, divide, step, twoSteps, run, scale, split, value, steps, scaled, parts}
 
 -- every refusal, in every operation on patterns that knows it: the house NaN, nothing else, and the first number that applies
 unfoldable pub refusals : List Reading
 refusals =
-    -- 2: e = 0 with J = 1, an unnormal, an infinity and a NaN without J; before a NaN on the other side
-    reading (divide x87 Truncated 0x00008000000000000000 0x3FFF8000000000000000) (value 2 0x7FFFC000000000000000 0)
+    -- 2: unnormals from the lowest field on, an infinity and a NaN without J; before a NaN on the other side
+    reading (divide x87 Truncated 0x00017FFFFFFFFFFFFFFF 0x3FFF8000000000000000) (value 2 0x7FFFC000000000000000 0)
     ∷ reading (divide x87 Nearest 0x3FFF8000000000000000 0x40007FFFFFFFFFFFFFFF) (value 2 0x7FFFC000000000000000 0)
     ∷ reading (divide x87 Truncated 0x7FFF0000000000000000 0x7FFFC000000000000001) (value 2 0x7FFFC000000000000000 0)
     ∷ reading (divide x87 Nearest 0x7FFF4000000000000000 0x3FFF8000000000000000) (value 2 0x7FFFC000000000000000 0)
     ∷ reading (step nothing Truncated 63 0xFFFFA000000000000000 0x40007FFFFFFFFFFFFFFF) (steps 2 0x7FFFC000000000000000 0 0)
     ∷ reading (run nothing Nearest 63 0 0x40007FFFFFFFFFFFFFFF 0x00000000000000000000) (steps 2 0x7FFFC000000000000000 0 0)
-    ∷ reading (scale x87 0x00008000000000000000 (pos 1)) (scaled 2 0x7FFFC000000000000000 Exact)
+    ∷ reading (scale x87 0x00010000000000000000 (pos 1)) (scaled 2 0x7FFFC000000000000000 Exact)
     ∷ reading (split x87 0x7FFF0000000000000000) (parts 2 0x7FFFC000000000000000 (pos 0))
     -- 3: a NaN, before an infinite dividend and a zero divisor
     ∷ reading (divide binary16 Truncated 0xFC01 0x0000) (value 3 0x7E00 0)
@@ -44,7 +44,7 @@ refusals =
     ∷ reading (run nothing Truncated 63 4294967295 0x3FFF8000000000000000 0x00000000000000000000) (steps 5 0x7FFFC000000000000000 0 0)
     -- 6: a size below 32 or above 63, before any operand
     ∷ reading (step nothing Truncated 31 0x3FFF8000000000000000 0x3FFF8000000000000000) (steps 6 0x7FFFC000000000000000 0 0)
-    ∷ reading (step nothing Nearest 64 0x00008000000000000000 0x00000000000000000000) (steps 6 0x7FFFC000000000000000 0 0)
+    ∷ reading (step nothing Nearest 64 0x00010000000000000000 0x00000000000000000000) (steps 6 0x7FFFC000000000000000 0 0)
     ∷ reading (run nothing Truncated 0 5 0x7FFFC000000000000001 0x3FFF8000000000000000) (steps 6 0x7FFFC000000000000000 0 0)
     ∷ reading (run nothing Nearest 4294967295 5 0x3FFF8000000000000000 0x3FFF8000000000000000) (steps 6 0x7FFFC000000000000000 0 0)
     -- 8: a zero that is split
@@ -78,6 +78,35 @@ answered =
     ∷ reading (split binary16 0x0001) (parts 0 0x3C00 (negsuc 23))
     ∷ reading (split binary64 0x8000000000000003) (parts 0 0xBFF8000000000000 (negsuc 1072))
     ∷ reading (split x87 0x00000000000000000001) (parts 0 0x3FFF8000000000000000 (negsuc 16444))
+    ∷ []
+
+-- [2.4, 2.10] a leading digit with the field 0: the number that the field 1 has too, which is returned with the field 1
+unfoldable pub pseudoDenormals : List Reading
+pseudoDenormals =
+    -- a dividend: below its divisor, by infinity, and by the smallest denormal
+    reading (divide x87 Truncated 0x00008000000000000000 0x3FFF8000000000000000) (value 0 0x00018000000000000000 0)
+    ∷ reading (divide x87 Nearest 0x8000FFFFFFFFFFFFFFFF 0x7FFF8000000000000000) (value 0 0x8001FFFFFFFFFFFFFFFF 0)
+    ∷ reading (divide x87 Truncated 0x80008000000000000005 0x00000000000000000001) (value 0 0x80000000000000000000 5)
+    -- a divisor: one and a half of it, and its largest denormal
+    ∷ reading (divide x87 Truncated 0x0001C000000000000000 0x00008000000000000000) (value 0 0x00004000000000000000 1)
+    ∷ reading (divide x87 Nearest 0x0001C000000000000000 0x80008000000000000000) (value 0 0x80004000000000000000 2)
+    ∷ reading (divide x87 Nearest 0x00007FFFFFFFFFFFFFFF 0x00008000000000000000) (value 0 0x80000000000000000001 1)
+    -- both, and a value by its other pattern
+    ∷ reading (divide x87 Truncated 0x0000FFFFFFFFFFFFFFFF 0x00008000000000000000) (value 0 0x00007FFFFFFFFFFFFFFF 1)
+    ∷ reading (divide x87 Nearest 0x8000C000000000000000 0x0001C000000000000000) (value 0 0x80000000000000000000 1)
+    -- steps and runs: a partial step by one, as reading 7, one by infinity, and a budget of 0
+    ∷ reading (step nothing Nearest 63 0x00418000000000000000 0x0000C000000000000000) (steps 1 0x00018000000000000000 2 1)
+    ∷ reading (twoSteps Nearest 63 0x00418000000000000000 0x0000C000000000000000) (steps 0 0x80004000000000000000 3 2)
+    ∷ reading (step nothing Truncated 32 0x80008000000000000001 0xFFFF8000000000000000) (steps 0 0x80018000000000000001 0 1)
+    ∷ reading (run nothing Nearest 32 0 0x00008000000000000001 0x0000C000000000000000) (steps 7 0x00018000000000000001 0 0)
+    -- two refused steps return nothing: the value is the dividend as given
+    ∷ reading (twoSteps Truncated 31 0x00008000000000000001 0x3FFF8000000000000000) (steps 7 0x00008000000000000001 0 0)
+    -- scaled by 1, halved at a tie, doubled
+    ∷ reading (scale x87 0x80008000000000000001 (pos 0)) (scaled 0 0x80018000000000000001 Exact)
+    ∷ reading (scale x87 0x00008000000000000001 (negsuc 0)) (scaled 0 0x00004000000000000000 Down)
+    ∷ reading (scale x87 0x00008000000000000001 (pos 1)) (scaled 0 0x00028000000000000001 Exact)
+    -- split
+    ∷ reading (split x87 0x8000C000000000000000) (parts 0 0xBFFFC000000000000000 (negsuc 16381))
     ∷ []
 
 -- ---- texts as bytes

@@ -16,6 +16,7 @@ use Rattle.definitions.proofs.Refusals.{supported}
 use Rattle.digits.proofs.Tests.{clash, and-both}
 use Rattle.laws.proofs.Regular.{regular64}
 use Rattle.laws.proofs.RoundTrip.{written-read}
+use Rattle.laws.proofs.Ordinary.{hidden-ordinary}
 use Rattle.floats.proofs.Passed.{passed, passed-is}
 use Rattle.gauges.specs.Held.{gaugeHeld}
 use Rattle.gauges.specs.declared.Gauge.the-variants.{Turn, Roller}
@@ -35,7 +36,7 @@ module _ (b : ℕ) (small : b < 2 ^ 64) where
   finite-passed unsupported e s h = clash (cc)
   finite-passed nan e s h = clash (cc)
   finite-passed (infinite n) e s h = clash (cc)
-  finite-passed (finite v) e s h = passed-is b ∙ ap (patternOf binary64) e ∙ written-read binary64 regular64 b v small e
+  finite-passed (finite v) e s h = passed-is b ∙ ap (patternOf binary64) e ∙ written-read binary64 regular64 b v small (hidden-ordinary binary64 refl b) e
 
   passes : bad b ≡ false → passed b ≡ b
   passes h = finite-passed (classOf binary64 b) refl (supported binary64 refl b) h

@@ -1,17 +1,17 @@
 -- The exponent field and the stored significand of a finite pattern, and the significand that they stand for. Assumes nothing.
 use mathlib.Core.Path.{_≡_, refl, sym, _∙_, subst}
-use mathlib.Core.Bool.{Bool, true, false, not, cond}
+use mathlib.Core.Bool.{Bool, true, false, not, cond, _&&_}
 use Prim.Native.Nat.{ℕ, zero, suc, _+_, _-_, _*_, _≤_, _<_}
 use native.Mathlib.Omega.{arith}
-use borrow.Author.Tests.{ne-eqb, eq-eqb}
-use lib.Dec.{T, eqb, ltb, ltb→lt, nltb→le}
+use borrow.Author.Tests.{ne-eqb, eq-eqb, lt-leb}
+use lib.Dec.{T, eqb, leb, ltb, ltb→lt, nltb→le, eqb·suc-zero}
 use lib.Arith.{lt-of-le-ne}
 use lib.Pow.{pow-mono}
 use Rattle.digits.proofs.Tests.{clash}
 use Rattle.definitions.specs.Class.{Value, finite, infinite, nan}
 use Rattle.definitions.specs.Format.{Format, Regular, topField, leading, fieldWeight, hiddenPart, fieldsClass, body, quiet, infinity}
 use Rattle.laws.proofs.Representable.{Placed, leading-twice}
-use Rattle.laws.proofs.Layouts.{number, weight, hidden-le, hidden-infinity, quiet-is, low-read, high-read, top-read, low-body, high-body, finite-low, finite-high}
+use Rattle.laws.proofs.Layouts.{number, weight, hidden-le, hidden-infinity, quiet-is, low-read, high-read, top-read, pseudo-read, low-body, high-body, finite-high}
 
 -- The field e and the stored significand t, with the significand s and the number j of dropped digits that they stand for:
 -- field 0 has no leading digit and drops none, and each other one has it.
@@ -22,7 +22,7 @@ pub data Fields (f : Format) : ℕ → ℕ → ℕ → ℕ → Type 0 where
 
 -- what they stand for
 pub fields-read : (f : Format) (n : Bool) {e t j s : ℕ} → Fields f e t j s → fieldsClass (f .layout) f n e t ≡ number n j s
-fields-read f n (low {t} h) = low-read (f .layout) f n t h
+fields-read f n (low {t} h) = low-read (f .layout) f n t
 fields-read f n (high {j} {t} h w g) = high-read (f .layout) f n j t h g
 
 -- how they are written
@@ -42,6 +42,11 @@ pub fields-placed : (f : Format) → Regular f → {e t j s : ℕ} → Fields f 
 fields-placed f r (low h) = record { small = omega (arith, leading-twice f r); leads = λ l. refl; range = omega arith }
 fields-placed f r (high h w g) =
     record { small = omega (arith, leading-twice f r, weight (f .layout) f r); leads = λ l. omega arith; range = omega arith }
+
+-- and they are ordinary
+pub fields-ordinary : (f : Format) {e t j s : ℕ} → Fields f e t j s → not (eqb e 0 && leb (leading f) t) ≡ true
+fields-ordinary f (low {t} h) = rw (lt-leb (leading f) t h)
+fields-ordinary f (high {j} h w g) = rw (eqb·suc-zero j)
 
 -- the fields of a placed significand
 pub record Stored (f : Format) (j s : ℕ) : Type 0 where
@@ -68,24 +73,51 @@ placed-fields f r {j} {s} p = go (ltb s (leading f)) (ltb→lt s (leading f)) (n
               (high (omega (arith, p .range)) (omega (arith, weight (f .layout) f r, leading-twice f r)) (omega arith));
         }
 
--- and the significand of the fields of a finite pattern
-pub record Significand (f : Format) (e t : ℕ) : Type 0 where
+-- and the ordinary fields of a finite pattern: its own, but for a leading digit with the field 0, which the field 1 has too
+pub record Significand (f : Format) (n : Bool) (e t : ℕ) : Type 0 where
+  pub field : ℕ
   pub dropped : ℕ
   pub significand : ℕ
-  pub fields : Fields f e t dropped significand
+  pub fields : Fields f field t dropped significand
+  pub same : fieldsClass (f .layout) f n e t ≡ fieldsClass (f .layout) f n field t
+  pub own : (e ≡ 0 → t < leading f) → field ≡ e
 
 not-finite : (b n : Bool) (v : Value) → cond b (infinite n) nan ≡ finite v → ⊥
 not-finite true n v e = clash (cc)
 not-finite false n v e = clash (cc)
 
-pub finite-fields : (f : Format) (n : Bool) (e t : ℕ) (v : Value) → fieldsClass (f .layout) f n e t ≡ finite v → e < topField f + 1 → t < fieldWeight f
-    → Significand f e t
-finite-fields f n zero t v c h w = record { dropped = 0; significand = t; fields = low (finite-low (f .layout) f n t v c w) }
-finite-fields f n (suc j) t v c h w =
+zero-fields : (f : Format) → Regular f → (n : Bool) (t : ℕ) → t < fieldWeight f → Significand f n 0 t
+zero-fields f r n t w = go (ltb t (leading f)) (ltb→lt t (leading f)) (nltb→le t (leading f))
+  where
+    go : (b : Bool) → (T b → t < leading f) → (T (not b) → leading f ≤ t) → Significand f n 0 t
+    go true a b = record { field = 0; dropped = 0; significand = t; fields = low (a tt); same = refl; own = λ o. refl }
+    go false a b =
+        let top : 1 < topField f = omega (arith, r .range) in
+        let u = hidden-le (f .layout) (leading f) in
+        record {
+          field = 1;
+          dropped = 0;
+          significand = hiddenPart (f .layout) (leading f) + t;
+          fields = high top w (omega (arith, b tt));
+          same = pseudo-read (f .layout) f n t top (b tt) w;
+          own = λ o. absurd (omega (arith, o refl, b tt));
+        }
+
+pub finite-fields : (f : Format) → Regular f → (n : Bool) (e t : ℕ) (v : Value) → fieldsClass (f .layout) f n e t ≡ finite v → e < topField f + 1
+    → t < fieldWeight f → Significand f n e t
+finite-fields f r n zero t v c h w = zero-fields f r n t w
+finite-fields f r n (suc j) t v c h w =
     let g = finite-high (f .layout) f n j t v c in
     let top = top-read (f .layout) f n t g in
     let no : suc j ≡ topField f → ⊥ = λ q. not-finite (eqb t (infinity (f .layout) (leading f))) n v (sym top ∙ rw q at c) in
-    record { dropped = j; significand = hiddenPart (f .layout) (leading f) + t; fields = high (lt-of-le-ne (omega arith) no) w g }
+    record {
+      field = suc j;
+      dropped = j;
+      significand = hiddenPart (f .layout) (leading f) + t;
+      fields = high (lt-of-le-ne (omega arith) no) w g;
+      same = refl;
+      own = λ o. refl;
+    }
 
 -- ---- the largest field: infinities, and the house NaN
 leading-two : (f : Format) → Regular f → 2 ≤ leading f

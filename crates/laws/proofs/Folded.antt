@@ -22,6 +22,7 @@ use Rattle.definitions.specs.Stem.{Gauge, Point, turn, roller, periodOf, isPosi
 use Rattle.definitions.proofs.Refusals.{supported}
 use Rattle.laws.proofs.Regular.{regular64}
 use Rattle.laws.proofs.RoundTrip.{read-written, read-held, written-read, read-house-nan, house-nan-small}
+use Rattle.laws.proofs.Ordinary.{hidden-ordinary}
 use Rattle.laws.proofs.Small.{remainder-small}
 use Rattle.laws.proofs.Division.{finish-held}
 use Rattle.laws.proofs.Difference.{difference-held}
@@ -192,7 +193,7 @@ module _ (g : Gauge) (x : ℕ) where
 
     -- what is below the period already is left as it is
     pub fold-small : shifted g x < patterns binary64 → v .count < p .value .count → foldReading g x ≡ shifted g x
-    fold-small l h = fold-is ∙ rw (mod-eq-of-lt h) (written-read binary64 regular64 (shifted g x) v l e)
+    fold-small l h = fold-is ∙ rw (mod-eq-of-lt h) (written-read binary64 regular64 (shifted g x) v l (hidden-ordinary binary64 refl (shifted g x)) e)
 
 -- ---- by a turn, which divides the reading itself
 

@@ -1,5 +1,5 @@
 -- The two layouts. Only this file tells them apart: what it says of both is all that the other laws use. Assumes nothing.
-use mathlib.Core.Path.{_≡_, refl, _∙_}
+use mathlib.Core.Path.{_≡_, refl, sym, ap, _∙_}
 use mathlib.Core.Bool.{Bool, true, false, cond}
 use Prim.Native.Nat.{ℕ, suc, _+_, _-_, _*_, _/_, _^_, _≤_, _<_}
 use native.Mathlib.Nat.{mul-one, zero-add, le-refl, le-add-right}
@@ -44,9 +44,9 @@ suc-sub-one : (j : ℕ) → suc j - 1 ≡ j
 suc-sub-one j = omega arith
 
 -- ---- field 0, each field between, and the largest
-pub low-read : (l : Layout) (f : Format) (n : Bool) (t : ℕ) → t < leading f → fieldsClass l f n 0 t ≡ number n 0 t
-low-read Hidden f n t h = rw (ne-eqb 0 (topField f) (omega arith), mul-one t)
-low-read Explicit f n t h = rw (lt-leb (leading f) t h, mul-one t)
+pub low-read : (l : Layout) (f : Format) (n : Bool) (t : ℕ) → fieldsClass l f n 0 t ≡ number n 0 t
+low-read Hidden f n t = rw (ne-eqb 0 (topField f) (omega arith), mul-one t)
+low-read Explicit f n t = rw (mul-one t)
 
 pub high-read : (l : Layout) (f : Format) (n : Bool) (j t : ℕ) → suc j < topField f → leading f ≤ hiddenPart l (leading f) + t
     → fieldsClass l f n (suc j) t ≡ number n j (hiddenPart l (leading f) + t)
@@ -59,6 +59,12 @@ pub top-read : (l : Layout) (f : Format) (n : Bool) (t : ℕ) → leading f ≤ 
 top-read Hidden f n t g = rw (eq-eqb (topField f) (topField f) refl)
 top-read Explicit f n t g = rw (ne-eqb (topField f) 0 (omega arith), le-leb (leading f) t (omega arith), eq-eqb (topField f) (topField f) refl)
 
+-- a leading digit with the field 0, which only an explicit one can be, is that of the field 1
+pub pseudo-read : (l : Layout) (f : Format) (n : Bool) (t : ℕ) → 1 < topField f → leading f ≤ t → t < storedWeight l (f .precision)
+    → fieldsClass l f n 0 t ≡ fieldsClass l f n 1 t
+pseudo-read Hidden f n t h g w = absurd (omega arith)
+pseudo-read Explicit f n t h g w = low-read Explicit f n t ∙ sym (high-read Explicit f n 0 t h (omega arith) ∙ ap (number n 0) (zero-add t))
+
 -- ---- how a significand that has dropped j digits is written
 pub low-body : (l : Layout) (f : Format) (t : ℕ) → t < leading f → body f l 0 t ≡ t
 low-body Hidden f t h = omega arith
@@ -70,14 +76,6 @@ high-body Hidden f j t e g = rw e (omega arith)
 high-body Explicit f j t e g = rw (zero-add t, le-leb (leading f) t (omega arith)) (omega arith)
 
 -- ---- what a finite pattern's significand is bounded by
-pub finite-low : (l : Layout) (f : Format) (n : Bool) (t : ℕ) (v : Value) → fieldsClass l f n 0 t ≡ finite v → t < storedWeight l (f .precision) → t < leading f
-finite-low Hidden f n t v e h = h
-finite-low Explicit f n t v e h = go (leb (leading f) t) refl
-  where
-    go : (b : Bool) → leb (leading f) t ≡ b → t < leading f
-    go true q = let d = rw q at e in clash (cc)
-    go false q = leb-false (leading f) t q
-
 pub finite-high : (l : Layout) (f : Format) (n : Bool) (j t : ℕ) (v : Value) → fieldsClass l f n (suc j) t ≡ finite v → leading f ≤ hiddenPart l (leading f) + t
 finite-high Hidden f n j t v e = le-add-right (leading f) t
 finite-high Explicit f n j t v e = go (leb (leading f) t) refl
@@ -99,8 +97,7 @@ infinite-top Explicit f m n e t c = go (eqb e 0) (leb (leading f) t) (eqb e (top
   where
     go : (z j a b : Bool) → eqb e 0 ≡ z → leb (leading f) t ≡ j → eqb e (topField f) ≡ a → eqb t (leading f) ≡ b
         → (e ≡ topField f) × (t ≡ leading f) × (m ≡ n)
-    go true true a b u v p q = let d = rw (u, v) at c in clash (cc)
-    go true false a b u v p q = let d = rw (u, v) at c in clash (cc)
+    go true j a b u v p q = let d = rw u at c in clash (cc)
     go false false a b u v p q = let d = rw (u, v) at c in clash (cc)
     go false true false b u v p q = let d = rw (u, v, p) at c in clash (cc)
     go false true true false u v p q = let d = rw (u, v, p, q) at c in clash (cc)

@@ -5,6 +5,7 @@ pub mod Layouts
 pub mod Fields
 pub mod Pattern
 pub mod RoundTrip
+pub mod Ordinary
 pub mod Range
 pub mod Division
 pub mod Agrees
@@ -15,6 +16,7 @@ pub mod Difference
 pub mod Subtraction
 pub mod Scaling
 pub mod Splitting
+pub mod Results
 pub mod Small
 pub mod Remainder
 pub mod Refusals

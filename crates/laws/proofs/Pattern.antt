@@ -1,13 +1,13 @@
 -- A pattern is its sign, its exponent field and its stored significand, whatever the layout. Assumes nothing.
 use mathlib.Core.Path.{_≡_}
-use mathlib.Core.Bool.{Bool, true, false, not, cond}
+use mathlib.Core.Bool.{Bool, true, false, not, cond, _&&_}
 use Prim.Native.Nat.{ℕ, _+_, _-_, _*_, _/_, _%_, _≤_, _<_}
 use native.Mathlib.Nat.{le-add-right, mod-lt, mul-comm, div-lt-iff-lt-mul, div-add-mod'}
 use native.Mathlib.Omega.{arith}
 use borrow.Author.Tests.{le-leb, lt-leb}
-use lib.Dec.{T, leb, leb→le, nleb→lt}
+use lib.Dec.{T, leb, leb→le, nleb→lt, eqb}
 use lib.Arith.{digits-lt, digits-div, digits-mod}
-use Rattle.definitions.specs.Format.{Format, topField, fieldWeight, signWeight, patterns, fieldsClass, classOf, withSign}
+use Rattle.definitions.specs.Format.{Format, topField, fieldWeight, signWeight, patterns, leading, fieldsClass, classOf, withSign, ordinary}
 use Rattle.laws.proofs.Layouts.{weight-pos}
 
 -- a sign, a field and a stored significand as one number
@@ -37,6 +37,11 @@ module _ (f : Format) (e t : ℕ) (small : e < topField f + 1) (rest : t < field
   pub pack-read : (n : Bool) → classOf f (pack f n e t) ≡ fieldsClass (f .layout) f n e t
   unfolding classOf
   pack-read n = rw (sign-back n, field-back n, rest-back n)
+
+  -- and is ordinary by its field and its stored significand
+  pub pack-ordinary : (n : Bool) → ordinary f (pack f n e t) ≡ not (eqb e 0 && leb (leading f) t)
+  unfolding ordinary
+  pack-ordinary n = rw (field-back n, rest-back n)
 
 -- and every pattern is packed
 pub record Packed (f : Format) (b : ℕ) : Type 0 where

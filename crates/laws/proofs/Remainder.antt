@@ -4,12 +4,11 @@ use mathlib.Core.Bool.{Bool}
 use Prim.Native.Nat.{ℕ, _<_}
 use Rattle.digits.proofs.Tests.{not-zero}
 use Rattle.definitions.specs.Class.{Value, finite, infinite}
-use Rattle.definitions.specs.Format.{Format, Regular, classOf, patternOf, patterns}
+use Rattle.definitions.specs.Format.{Format, classOf, patternOf, ordinaryOf}
 use Rattle.definitions.specs.Numbers.{first}
 use Rattle.definitions.specs.declared.Kind.{Kind}
 use Rattle.definitions.specs.Division.{by, finish}
 use Rattle.definitions.specs.Remainder.{quotientBits, remainderOf, remainder}
-use Rattle.laws.proofs.RoundTrip.{written-read}
 
 -- [3.1, 3.2, 3.6] of two finite operands, the divisor not zero
 pub remainder-is : (f : Format) (κ : Kind) (x y : ℕ) (v w : Value) → classOf f x ≡ finite v → classOf f y ≡ finite w → 0 < w .count
@@ -18,8 +17,8 @@ pub remainder-is : (f : Format) (κ : Kind) (x y : ℕ) (v w : Value) → classO
 unfolding remainder remainderOf first
 remainder-is f κ x y v w ex ey p = rw (ex, ey, not-zero (w .count) p)
 
--- [3.7] an infinite divisor leaves x
-pub remainder-infinite : (f : Format) → Regular f → (κ : Kind) (x y : ℕ) (v : Value) (s : Bool) → x < patterns f → classOf f x ≡ finite v
-    → classOf f y ≡ infinite s → remainder f κ x y ≡ record { number = 0; value = x; quotient = 0 }
+-- [3.7] an infinite divisor leaves x, in its ordinary pattern
+pub remainder-infinite : (f : Format) (κ : Kind) (x y : ℕ) (v : Value) (s : Bool) → classOf f x ≡ finite v → classOf f y ≡ infinite s
+    → remainder f κ x y ≡ record { number = 0; value = ordinaryOf f x; quotient = 0 }
 unfolding remainder remainderOf first finish
-remainder-infinite f r κ x y v s lx ex ey = rw (ex, ey, written-read f r x v lx ex)
+remainder-infinite f κ x y v s ex ey = rw (ex, ey)

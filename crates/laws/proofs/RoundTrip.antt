@@ -1,19 +1,21 @@
--- What a format holds is written and read back, and each finite pattern is the one that its value is written as. Assumes nothing.
+-- What a format holds is written and read back, and each finite pattern that is ordinary is the one that its value is written as. Assumes nothing.
 use mathlib.Core.Path.{_≡_, refl, sym, ap, _∙_, subst}
-use mathlib.Core.Bool.{Bool, false}
+use mathlib.Core.Bool.{Bool, true, false, not, _&&_}
 use Prim.Native.Nat.{ℕ, _+_, _-_, _*_, _/_, _%_, _^_, _<_}
 use native.Mathlib.Nat.{zero-add}
 use native.Mathlib.Omega.{arith}
-use lib.Dec.{leb}
+use borrow.Author.Tests.{eq-eqb, ne-eqb, leb-false}
+use lib.Dec.{leb, eqb}
 use lib.Ieee.{size}
+use Rattle.digits.proofs.Tests.{clash}
 use Rattle.definitions.specs.Class.{Value, Class, unsupported, nan, infinite, finite}
-use Rattle.definitions.specs.Format.{Format, Representable, Holds, Regular, topField, fieldWeight, signWeight, patterns, classOf, withSign, patternOf, houseNan, infinity, quiet, leading}
+use Rattle.definitions.specs.Format.{Format, Representable, Holds, Regular, topField, fieldWeight, signWeight, patterns, classOf, withSign, patternOf, ordinary, houseNan, infinity, quiet, leading}
 use Rattle.laws.proofs.Representable.{held-placed, held-count, placed-held, magnitude-placed}
 use Rattle.laws.proofs.Layouts.{number, infinite-top}
-use Rattle.laws.proofs.Fields.{Fields, fields-read, fields-body, fields-field, fields-rest, fields-placed, placed-fields, finite-fields, infinity-rest, quiet-rest, infinity-read, quiet-read}
-use Rattle.laws.proofs.Pattern.{pack, pack-read, pack-small, packed, field-small, rest-small}
+use Rattle.laws.proofs.Fields.{Fields, fields-read, fields-body, fields-field, fields-rest, fields-ordinary, fields-placed, placed-fields, finite-fields, infinity-rest, quiet-rest, infinity-read, quiet-read}
+use Rattle.laws.proofs.Pattern.{pack, pack-read, pack-ordinary, pack-small, packed, field-small, rest-small}
 
-same-count : (u v : Value) → finite u ≡ finite v → u .count ≡ v .count
+pub same-count : (u v : Value) → finite u ≡ finite v → u .count ≡ v .count
 same-count u v e = cc
 
 module _ (f : Format) (r : Regular f) where
@@ -42,12 +44,18 @@ module _ (f : Format) (r : Regular f) where
       by-fields (λ c. patternOf f c < patterns f) v h
       (λ e t j s c. rw (written (v .negative) c) (pack-small f e t (fields-field f c) (fields-rest f r c) (v .negative)))
 
+  pub pattern-ordinary : (v : Value) → Representable f (v .count) → ordinary f (patternOf f (finite v)) ≡ true
+  pattern-ordinary v h =
+      by-fields (λ c. ordinary f (patternOf f c) ≡ true) v h
+      (λ e t j s c. ap (ordinary f) (written (v .negative) c) ∙ pack-ordinary f e t (fields-field f c) (fields-rest f r c) (v .negative) ∙ fields-ordinary f c)
+
   pub read-held : (b : ℕ) (v : Value) → classOf f b ≡ finite v → Representable f (v .count)
   unfolding classOf
   read-held b v e =
       let n = leb (signWeight f) b in
-      let c = finite-fields f n (b / fieldWeight f % (topField f + 1)) (b % fieldWeight f) v e (field-small f b) (rest-small f b) in
-      subst (Representable f) (same-count (record { negative = n; count = c .significand * 2 ^ c .dropped }) v (sym (fields-read f n (c .fields)) ∙ e))
+      let c = finite-fields f r n (b / fieldWeight f % (topField f + 1)) (b % fieldWeight f) v e (field-small f b) (rest-small f b) in
+      subst (Representable f)
+      (same-count (record { negative = n; count = c .significand * 2 ^ c .dropped }) v (sym (c .same ∙ fields-read f n (c .fields)) ∙ e))
       (placed-held f (c .dropped) (c .significand) (fields-placed f r (c .fields)))
 
   -- so that the class of every pattern is one that the format holds
@@ -60,13 +68,27 @@ module _ (f : Format) (r : Regular f) where
       go (infinite n) e = tt
       go (finite v) e = read-held b v e
 
-  pub written-read : (b : ℕ) (v : Value) → b < patterns f → classOf f b ≡ finite v → patternOf f (finite v) ≡ b
-  written-read b v h e =
+  -- how the value of a finite pattern is written: with its own field if that is ordinary
+  pub finite-written : (n : Bool) (e t : ℕ) (v : Value) → e < topField f + 1 → t < fieldWeight f → classOf f (pack f n e t) ≡ finite v
+      → (e ≡ 0 → t < leading f) → patternOf f (finite v) ≡ pack f n e t
+  finite-written n e t v small below k o =
+      let q = sym (pack-read f e t small below n) ∙ k in
+      let c = finite-fields f r n e t v q small below in
+      ap (patternOf f) (sym q ∙ c .same ∙ fields-read f n (c .fields)) ∙ written n (c .fields) ∙ ap (λ (i : ℕ). pack f n i t) (c .own o)
+
+  pub written-read : (b : ℕ) (v : Value) → b < patterns f → ordinary f b ≡ true → classOf f b ≡ finite v → patternOf f (finite v) ≡ b
+  written-read b v h o e =
       let p = packed f b h in
-      let n = p .negative in
-      let k = sym (pack-read f (p .field) (p .rest) (p .small) (p .below) n) ∙ ap (classOf f) (p .is) ∙ e in
-      let c = finite-fields f n (p .field) (p .rest) v k (p .small) (p .below) in
-      ap (patternOf f) (sym k ∙ fields-read f n (c .fields)) ∙ written n (c .fields) ∙ p .is
+      let q = sym (pack-ordinary f (p .field) (p .rest) (p .small) (p .below) (p .negative)) ∙ ap (ordinary f) (p .is) ∙ o in
+      finite-written (p .negative) (p .field) (p .rest) v (p .small) (p .below) (ap (classOf f) (p .is) ∙ e) (λ z. leads (p .field) (p .rest) z q)
+      ∙ p .is
+    where
+      leads : (e t : ℕ) → e ≡ 0 → not (eqb e 0 && leb (leading f) t) ≡ true → t < leading f
+      leads e t z q = go (leb (leading f) t) refl
+        where
+          go : (b : Bool) → leb (leading f) t ≡ b → t < leading f
+          go true a = let d = rw (eq-eqb e 0 z, a) at q in clash (cc)
+          go false a = leb-false (leading f) t a
 
   -- infinities, and the house NaN
   pub read-infinite : (n : Bool) → classOf f (patternOf f (infinite n)) ≡ infinite n
@@ -81,6 +103,13 @@ module _ (f : Format) (r : Regular f) where
       let i = infinite-top (f .layout) f (p .negative) n (p .field) (p .rest) k in
       rw (i .0, i .1, i .2) at (p .is)
 
+  top-ordinary : (t : ℕ) → not (eqb (topField f) 0 && leb (leading f) t) ≡ true
+  top-ordinary t = rw (ne-eqb (topField f) 0 (omega arith))
+
+  pub infinite-ordinary : (n : Bool) → ordinary f (patternOf f (infinite n)) ≡ true
+  unfolding patternOf
+  infinite-ordinary n = let i = infinity (f .layout) (leading f) in pack-ordinary f (topField f) i (omega arith) (infinity-rest f r) n ∙ top-ordinary i
+
   pub infinite-small : (n : Bool) → patternOf f (infinite n) < patterns f
   unfolding patternOf
   infinite-small n = pack-small f (topField f) (infinity (f .layout) (leading f)) (omega arith) (infinity-rest f r) n
@@ -91,3 +120,8 @@ module _ (f : Format) (r : Regular f) where
 
   pub house-nan-small : houseNan f < patterns f
   house-nan-small = rw zero-add at (pack-small f (topField f) (quiet (f .layout) (leading f)) (omega arith) (quiet-rest f r) false)
+
+  pub house-nan-ordinary : ordinary f (houseNan f) ≡ true
+  house-nan-ordinary =
+      let q = quiet (f .layout) (leading f) in
+      (rw zero-add at (pack-ordinary f (topField f) q (omega arith) (quiet-rest f r) false)) ∙ top-ordinary q

@@ -17,7 +17,7 @@ use Rattle.digits.proofs.Size.{size-pos, size-shift}
 use Rattle.digits.proofs.Digits.{digits-shift}
 use Rattle.digits.proofs.Common.{shift-back}
 use Rattle.definitions.specs.Class.{Value, Class, unsupported, nan, infinite, finite}
-use Rattle.definitions.specs.Format.{Format, Representable, Regular, reach, exponentOf, patterns, classOf, patternOf, Holds}
+use Rattle.definitions.specs.Format.{Format, Representable, Regular, reach, exponentOf, patterns, classOf, patternOf, ordinaryOf, Holds}
 use Rattle.definitions.specs.Numbers.{first}
 use Rattle.definitions.specs.declared.Rounding.{Rounding}
 use Rattle.definitions.specs.declared.Rounding.the-variants.{Exact, Up, Down}
@@ -27,6 +27,7 @@ use Rattle.laws.proofs.Representable.{zero-held}
 use Rattle.laws.proofs.Gap.{sub-cases}
 use Rattle.laws.proofs.Range.{exponent-above}
 use Rattle.laws.proofs.RoundTrip.{read-held, written-read, written-infinite}
+use Rattle.laws.proofs.Ordinary.{Numeric, zero-ordinary}
 use Rattle.laws.proofs.Round.{round-multiple, round-nothing, round-same, round-digits}
 
 abbrev pub boundedRound : Format → Bool → Rounded → Scaled
@@ -110,35 +111,27 @@ pub scale-finite : (f : Format) (x : ℕ) (v : Value) (k : ℤ) → classOf f x 
 unfolding scaleReport scaleOf scaleClass first
 scale-finite f x v k e some = rw (e, not-zero (v .count) some)
 
--- what a pattern that is taken stands for
-abbrev pub Numeric : Class → Type 0
-Numeric unsupported = ⊥
-Numeric nan = ⊥
-Numeric (infinite s) = Unit {0}
-Numeric (finite v) = Unit {0}
-
-module _ (f : Format) (r : Regular f) (x : ℕ) (small : x < patterns f) where
+module _ (f : Format) (r : Regular f) (x : ℕ) where
   -- [6.5] zeros and infinities stay as they are
-  pub scale-infinite : (s : Bool) (k : ℤ) → classOf f x ≡ infinite s → scaleReport f x k ≡ unchanged x
+  pub scale-infinite : x < patterns f → (s : Bool) (k : ℤ) → classOf f x ≡ infinite s → scaleReport f x k ≡ unchanged x
   unfolding scaleReport scaleOf scaleClass first
-  scale-infinite s k e = rw (e, written-infinite f r x s small e)
+  scale-infinite small s k e = rw (e, written-infinite f r x s small e)
 
-  pub scale-nothing : (v : Value) (k : ℤ) → classOf f x ≡ finite v → v .count ≡ 0 → scaleReport f x k ≡ unchanged x
+  pub scale-nothing : x < patterns f → (v : Value) (k : ℤ) → classOf f x ≡ finite v → v .count ≡ 0 → scaleReport f x k ≡ unchanged x
   unfolding scaleReport scaleOf scaleClass first
-  scale-nothing v k e none = rw (e, eq-eqb (v .count) 0 none, written-read f r x v small e)
+  scale-nothing small v k e none = rw (e, eq-eqb (v .count) 0 none, written-read f r x v small (zero-ordinary f r x v small e none) e)
 
-  pub scale-zero : Numeric (classOf f x) → scaleReport f x (pos 0) ≡ unchanged x
+  -- [2.10] by 0 every number stays what it is, in its ordinary pattern
+  pub scale-zero : Numeric (classOf f x) → scaleReport f x (pos 0) ≡ unchanged (ordinaryOf f x)
+  unfolding scaleReport scaleOf scaleClass first
   scale-zero = go (classOf f x) refl
     where
-      go : (c : Class) → classOf f x ≡ c → Numeric c → scaleReport f x (pos 0) ≡ unchanged x
+      go : (c : Class) → classOf f x ≡ c → Numeric c → scaleReport f x (pos 0) ≡ unchanged (ordinaryOf f x)
       go unsupported e n = absurd n
       go nan e n = absurd n
-      go (infinite s) e n = scale-infinite s (pos 0) e
+      go (infinite s) e n = rw e
       go (finite v) e n = some (v .count) refl
         where
-          some : (c : ℕ) → v .count ≡ c → scaleReport f x (pos 0) ≡ unchanged x
-          some zero q = scale-nothing v (pos 0) e q
-          some (suc c) q =
-              scale-finite f x v (pos 0) e (omega arith)
-              ∙ ap (scaledReport f) (scale-one f r v (read-held f r x v e))
-              ∙ rw (written-read f r x v small e)
+          some : (c : ℕ) → v .count ≡ c → scaleReport f x (pos 0) ≡ unchanged (ordinaryOf f x)
+          some zero q = rw (e, eq-eqb (v .count) 0 q)
+          some (suc c) q = scale-finite f x v (pos 0) e (omega arith) ∙ ap (scaledReport f) (scale-one f r v (read-held f r x v e)) ∙ rw e

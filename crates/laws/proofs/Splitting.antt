@@ -11,12 +11,12 @@ use Rattle.digits.proofs.Tests.{not-zero}
 use Rattle.digits.proofs.Size.{size-pos, size-shift}
 use Rattle.digits.proofs.Digits.{pow-dvd, digits-dvd, digits-shift, digits-unshift}
 use Rattle.definitions.specs.Class.{Value, finite}
-use Rattle.definitions.specs.Format.{Format, Representable, Regular, exponentOf, patterns, classOf, patternOf}
+use Rattle.definitions.specs.Format.{Format, Representable, Regular, exponentOf, classOf, patternOf, ordinaryOf}
 use Rattle.definitions.specs.Numbers.{first}
 use Rattle.definitions.specs.declared.Rounding.the-variants.{Exact}
 use Rattle.definitions.specs.Scale.{scaleValue, scaleOf, scaleReport, significandOf, splitOf, splitReport}
 use Rattle.laws.proofs.Range.{smallest-is, exponent-is}
-use Rattle.laws.proofs.RoundTrip.{read-held, read-written, written-read}
+use Rattle.laws.proofs.RoundTrip.{read-held, read-written}
 use Rattle.laws.proofs.Round.{round-multiple}
 use Rattle.laws.proofs.Scaling.{unchanged, scaledReport, scale-round, scale-finite, bounded-finite}
 
@@ -82,15 +82,15 @@ module _ (f : Format) (r : Regular f) (v : Value) (some : 0 < v .count) (held : 
       ap (scaleValue f (significandOf f v)) (exponent-is f r (v .count)) ∙ scale-round f (significandOf f v) (size (v .count) - 1) (onePlace f)
       ∙ rw (significand-count, round-multiple (v .count) (onePlace f), significand-sign f v) (bounded-finite f r (v .negative) (v .count) Exact (held .range))
 
--- [6.7] what was split scales back to itself
-pub split-back : (f : Format) → Regular f → (x : ℕ) → x < patterns f → (v : Value) → classOf f x ≡ finite v → 0 < v .count
-    → (splitReport f x .number ≡ 0) × (scaleReport f (splitReport f x .significand) (splitReport f x .exponent) ≡ unchanged x)
-split-back f r x small v e some =
+-- [6.7] what was split scales back to its value, in its ordinary pattern
+pub split-back : (f : Format) → Regular f → (x : ℕ) (v : Value) → classOf f x ≡ finite v → 0 < v .count
+    → (splitReport f x .number ≡ 0) × (scaleReport f (splitReport f x .significand) (splitReport f x .exponent) ≡ unchanged (ordinaryOf f x))
+split-back f r x v e some =
     let held = read-held f r x v e in
     let s = significandOf f v in
     let back = read-written f r s (significand-held f r v some held) in
     rw (split-finite f x v e some) (
       refl,
       scale-finite f (patternOf f (finite s)) s (exponentOf f (v .count)) back (significand-pos f r v some held)
-          ∙ ap (scaledReport f) (scale-significand f r v some held) ∙ rw (written-read f r x v small e),
+          ∙ ap (scaledReport f) (scale-significand f r v some held) ∙ rw e,
     )

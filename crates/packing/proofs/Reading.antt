@@ -4,13 +4,13 @@ use Prim.Native.Nat.{ℕ, zero, suc, _+_, _-_, _*_, _^_, _≤_, _<_}
 use mathlib.Core.Bool.{Bool}
 use native.Mathlib.Nat.{mul-assoc}
 use native.Mathlib.Omega.{arith}
-use borrow.Author.Tests.{le-leb, lt-leb, eq-eqb, ne-eqb}
+use borrow.Author.Tests.{lt-leb, eq-eqb, ne-eqb}
 use lib.Arith.{lt-of-le-ne}
 use lib.Dec.{eqb·suc-zero}
 use lib.IntN.{pos, _+ℤ_}
 use lib.Pow.{pow-add}
 use Rattle.definitions.specs.Class.{unsupported}
-use Rattle.definitions.specs.Format.{Format, topField, leading, storedWeight, fieldWeight, hiddenPart, infinity, fieldsClass, classOf}
+use Rattle.definitions.specs.Format.{Format, topField, leading, fieldWeight, hiddenPart, infinity, fieldsClass, classOf}
 use Rattle.definitions.specs.declared.Layout.{Layout}
 use Rattle.definitions.specs.declared.Layout.the-variants.{Hidden, Explicit}
 use Rattle.laws.proofs.Layouts.{number, low-read, high-read, top-read, hidden-infinity}
@@ -20,13 +20,9 @@ use Rattle.operands.specs.declared.Operand.the-variants.{Unsupported, Nan, Infi
 use Rattle.operands.proofs.Normal.{normal-operand}
 use Rattle.shapes.specs.Shape.{Sound, fieldsIn}
 use Rattle.shapes.specs.declared.fields.Fields.{Fields}
-use Rattle.shapes.proofs.Weights.{leading-le, significand-word}
+use Rattle.shapes.proofs.Weights.{significand-word}
 
--- a leading digit that field 0 has not, and one that another field lacks: only an explicit one can do so
-pseudo-read : (l : Layout) (f : Format) (n : Bool) (t : ℕ) → t < storedWeight l (f .precision) → leading f ≤ t → fieldsClass l f n 0 t ≡ unsupported
-pseudo-read Hidden f n t h g = absurd (omega arith)
-pseudo-read Explicit f n t h g = rw (le-leb (leading f) t g)
-
+-- a leading digit that a field above 0 lacks: only an explicit one can do so
 unnormal-read : (l : Layout) (f : Format) (n : Bool) (j t : ℕ) → hiddenPart l (leading f) + t < leading f → fieldsClass l f n (suc j) t ≡ unsupported
 unnormal-read Hidden f n j t h = absurd (omega arith)
 unnormal-read Explicit f n j t h = rw (eqb·suc-zero j, lt-leb (leading f) t (omega arith))
@@ -42,16 +38,11 @@ module _ (f : Format) (ok : Sound f) (b : ℕ) (r : Fields) (is : r ≡ fieldsIn
   pub stored-small : r .stored < fieldWeight f
   stored-small = rw is (rest-small f b)
 
-  -- field 0
-  module _ (zeroth : r .field ≡ 0) where
-    pub pseudo : leading f ≤ r .stored → Unsupported ≡ operandOf (f .smallest) (classOf f b)
-    unfolding operandOf
-    pseudo h = rw (class-is, zeroth, pseudo-read (f .layout) f (r .negative) (r .stored) stored-small h)
-
-    pub low : r .stored < leading f → normalOf (r .negative) (r .stored) (f .smallest +ℤ pos 63) ≡ operandOf (f .smallest) (classOf f b)
-    low h =
-        rw (class-is, zeroth, low-read (f .layout) f (r .negative) (r .stored) h)
-        (normal-operand (f .smallest) (r .negative) (r .stored) 63 (r .stored * 2 ^ 0) (omega (arith, leading-le f ok)) (omega arith))
+  -- field 0, with a leading digit or without
+  pub low : r .field ≡ 0 → normalOf (r .negative) (r .stored) (f .smallest +ℤ pos 63) ≡ operandOf (f .smallest) (classOf f b)
+  low zeroth =
+      rw (class-is, zeroth, low-read (f .layout) f (r .negative) (r .stored))
+      (normal-operand (f .smallest) (r .negative) (r .stored) 63 (r .stored * 2 ^ 0) (omega (arith, significand-word f ok (r .stored) stored-small)) (omega arith))
 
   -- another field: the significand with what the pattern leaves out of it
   module _ (s : ℕ) (whole : s ≡ hiddenPart (f .layout) (leading f) + r .stored) (above : r .field ≡ 0 → ⊥) where

@@ -14,7 +14,7 @@ use Rattle.operands.specs.Operand.{normalOf}
 use Rattle.shapes.specs.Shape.{formatOf}
 use Rattle.packing.proofs.Standing.{smallest-small}
 use Rattle.shapes.proofs.Weights.{top-le, significand-word}
-use Rattle.packing.proofs.Reading.{field-le, stored-small, pseudo, low, unnormal, infinite-top, nan-top, high}
+use Rattle.packing.proofs.Reading.{field-le, stored-small, low, unnormal, infinite-top, nan-top, high}
 use borrow.Author.Needs.{needs}
 use Rattle.packing.proofs.unpack.unpack.Statement.{statement}
 use Rattle.packing.proofs.unpack.unpack.Tie as tie
@@ -49,29 +49,21 @@ module _ (s : tie.Start) where
     normal : (n : Bool) (a : ℕ) → normalOf n a (toZ w32 (ofZ w32 e)) ≡ normalOf n a (s .args .shape .smallest +ℤ pos k)
     normal n a = ap (normalOf n a) (exponent-back ∙ exponent-at)
 
-returns : tie.Need-returns
-returns c =
-    let o = c .before .before .before .before in
-    let s = o .before in
-    pseudo (formatOf (s .args .shape)) (s .pre .0) (joined (s .args .pattern)) (o .fields-of .result) (o .fields-of .ensures) (c .before .before .if1 .taken)
-    (omega arith)
-
 exponent-at-requires : tie.Need-exponent-at-requires
-exponent-at-requires c κs = let s = c .before .before .before .before .before .before in rw (back s) (omega (arith, small s), omega arith)
+exponent-at-requires c κs = let s = c .before .before .before .before in rw (back s) (omega (arith, small s), omega arith)
 
 normalise-requires : tie.Need-normalise-requires
 normalise-requires c κs =
-    exponent-ready (c .before .before .before .before .before .before .before) (c .exponent-at .result) 63 (c .exponent-at .ensures) (omega arith)
+    exponent-ready (c .before .before .before .before .before) (c .exponent-at .result) 63 (c .exponent-at .ensures) (omega arith)
 
-returns-2 : tie.Need-returns-2
-returns-2 c =
-    let o = c .before .before .before .before .before .before .before in
+returns : tie.Need-returns
+returns c =
+    let o = c .before .before .before .before .before in
     let s = o .before in
     let r = o .fields-of .result in
     c .normalise .ensures
     ∙ normal s (c .before .exponent-at .result) 63 (c .before .exponent-at .ensures) (omega arith) (r .negative) (r .stored)
-    ∙ low (formatOf (s .args .shape)) (s .pre .0) (joined (s .args .pattern)) (o .fields-of .result) (o .fields-of .ensures) (c .before .before .before .before .before .if1 .taken)
-    (omega arith)
+    ∙ low (formatOf (s .args .shape)) (s .pre .0) (joined (s .args .pattern)) (o .fields-of .result) (o .fields-of .ensures) (c .before .before .before .if1 .taken)
 
 hidden-part-requires : tie.Need-hidden-part-requires
 hidden-part-requires c κs = search needs
@@ -90,8 +82,8 @@ whole : (c : tie.After-hidden-part) → c .hidden-part .result + c .before .befo
     + c .before .before .before .fields-of .result .stored
 whole c = ap (λ (h : ℕ). h + c .before .before .before .fields-of .result .stored) (c .hidden-part .ensures)
 
-returns-3 : tie.Need-returns-3
-returns-3 c =
+returns-2 : tie.Need-returns-2
+returns-2 c =
     let k = c .before .before in
     let o = k .before .before .before in
     let s = o .before in
@@ -101,21 +93,21 @@ returns-3 c =
 top-field-requires : tie.Need-top-field-requires
 top-field-requires c κs = search needs
 
+returns-3 : tie.Need-returns-3
+returns-3 c =
+    let k = c .before .before .before .before .before in
+    let o = k .before .before .before in
+    let s = o .before in
+    infinite-top (formatOf (s .args .shape)) (s .pre .0) (joined (s .args .pattern)) (o .fields-of .result) (o .fields-of .ensures) _ (whole k) (k .before .if1 .left)
+    (omega arith) (c .before .if3 .taken ∙ c .before .before .top-field .ensures) (c .if4 .taken ∙ k .before .before .leading-weight .ensures)
+
 returns-4 : tie.Need-returns-4
 returns-4 c =
     let k = c .before .before .before .before .before in
     let o = k .before .before .before in
     let s = o .before in
-    infinite-top (formatOf (s .args .shape)) (s .pre .0) (joined (s .args .pattern)) (o .fields-of .result) (o .fields-of .ensures) _ (whole k) (k .before .if1 .left)
-    (omega arith) (c .before .if4 .taken ∙ c .before .before .top-field .ensures) (c .if5 .taken ∙ k .before .before .leading-weight .ensures)
-
-returns-5 : tie.Need-returns-5
-returns-5 c =
-    let k = c .before .before .before .before .before in
-    let o = k .before .before .before in
-    let s = o .before in
     nan-top (formatOf (s .args .shape)) (s .pre .0) (joined (s .args .pattern)) (o .fields-of .result) (o .fields-of .ensures) _ (whole k) (k .before .if1 .left)
-    (omega arith) (c .before .if4 .taken ∙ c .before .before .top-field .ensures) (λ q. c .if5 .left (q ∙ sym (k .before .before .leading-weight .ensures)))
+    (omega arith) (c .before .if3 .taken ∙ c .before .before .top-field .ensures) (λ q. c .if4 .left (q ∙ sym (k .before .before .leading-weight .ensures)))
 
 field-small : (o : tie.After-fields-of) → o .fields-of .result .field ≤ 32767
 field-small o =
@@ -139,8 +131,8 @@ normalise-requires-2 c κs =
     let o = c .before .before .before .before .before .before .before .before .before in
     exponent-ready (o .before) (c .exponent-at2 .result) (o .fields-of .result .field - 1 + 63) (c .exponent-at2 .ensures) (omega (arith, field-small o))
 
-returns-6 : tie.Need-returns-6
-returns-6 c =
+returns-5 : tie.Need-returns-5
+returns-5 c =
     let e = c .before in
     let t = e .before .before .before in
     let k = t .before .before .before in
@@ -150,7 +142,7 @@ returns-6 c =
     c .normalise2 .ensures
     ∙ normal s (e .exponent-at2 .result) (r .field - 1 + 63) (e .exponent-at2 .ensures) (omega (arith, field-small o)) (r .negative) (k .hidden-part .result + r .stored)
     ∙ high (formatOf (s .args .shape)) (s .pre .0) (joined (s .args .pattern)) (o .fields-of .result) (o .fields-of .ensures) _ (whole k) (k .before .if1 .left)
-    (omega arith) (λ q. e .before .before .if4 .left (q ∙ sym (t .top-field .ensures)))
+    (omega arith) (λ q. e .before .before .if3 .left (q ∙ sym (t .top-field .ensures)))
 
 pub unpack-spec : {M : Type 1} → statement M
 unpack-spec =
@@ -158,18 +150,17 @@ unpack-spec =
     (tie.spec
     fields-of-requires
     leading-weight-requires
-    returns
     exponent-at-requires
     normalise-requires
-    returns-2
+    returns
     hidden-part-requires
     add-significand
-    returns-3
+    returns-2
     top-field-requires
+    returns-3
     returns-4
-    returns-5
     sub-exponent-at
     cast-exponent-at
     exponent-at-requires-2
     normalise-requires-2
-    returns-6)
+    returns-5)
