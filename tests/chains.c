@@ -38,9 +38,12 @@ static int same_reply(struct reply a, struct reply b) {
     return a.number == b.number && !a.touched && !b.touched && same(a.value, b.value) && a.quotient == b.quotient && a.steps == b.steps;
 }
 
-/* Steps from x to the first that finishes or is refused, or to the spent budget, added up. Size 0: another one at each step. */
+/*
+ * Steps from x to the first that finishes or is refused, or to the spent budget, added up. Size 0: another one at each step. The first step
+ * takes x as it comes, a pseudo-denormal too; with no step there is only its ordinary pattern to give.
+ */
 static struct reply steps(struct pair p, uint32_t size, uint32_t kind, uint32_t budget, uint64_t *state) {
-    struct reply sum = {ZK_SPENT, p.x, 0, 0, 0, 0, 0};
+    struct reply sum = {ZK_SPENT, budget ? p.x : ordinary(p.x), 0, 0, 0, 0, 0};
     while (sum.steps < budget) {
         struct reply r = call_step(sum.value, p.y, size ? size : (uint32_t)between(state, 32, 63), kind, ZK_BLOCK_LENGTH);
         if (!zk_is_answer(r.number))

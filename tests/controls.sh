@@ -58,16 +58,22 @@ untouched   | run-size-cut-to-a-byte                     | ^number of a run,
 untouched   | run-budget-0-is-1                          | ^number of a run with no budget
 untouched   | step-refusal-writes                        | ^memory after a step and a run
 untouched   | run-refusal-writes                         | ^memory after a step and a run
-untouched   | rem80-pseudo-denormal-is-a-number          | ^an unsupported dividend
-untouched   | rem80-pseudo-denormal-is-a-number          | ^an unsupported divisor
+untouched   | rem80-unnormal-is-a-number                 | ^an unsupported dividend
+untouched   | rem80-unnormal-is-a-number                 | ^an unsupported divisor
+untouched   | rem80-pseudo-denormal-refused              | ^number of a remainder, x87: 2
+untouched   | step-pseudo-denormal-refused               | ^number of a step, x87: 2
+untouched   | run-pseudo-denormal-refused                | ^number of a run, x87: 2
+untouched   | run-pseudo-denormal-divisor-is-zero        | ^number of a run with no budget, x87: 5
 untouched   | step-length-cut-to-32-bits                 | ^number of a step with a long block
 untouched   | run-length-cut-to-32-bits                  | ^number of a run with a long block
 untouched   | scale16-nan-is-infinite                    | ^number of a scaling, binary16
 untouched   | scale80-refusal-writes                     | ^memory after a scaling, x87
 untouched   | split32-zero-is-five                       | ^number of a split, binary32
 untouched   | split64-refusal-writes                     | ^memory after a split, binary64
-untouched   | scale80-pseudo-denormal-is-a-number        | ^scaling of an unsupported pattern
-untouched   | split80-pseudo-denormal-is-a-number        | ^split of an unsupported pattern
+untouched   | scale80-pseudo-denormal-refused            | ^number of a scaling, x87: 2
+untouched   | split80-pseudo-denormal-refused            | ^number of a split, x87: 2
+untouched   | scale80-pseudo-infinity-is-infinite        | ^scaling of an unsupported pattern
+untouched   | split80-pseudo-nan-is-a-nan                | ^split of an unsupported pattern
 untouched   | fold-divisor-before-length                 | ^number of a refused list
 untouched   | fold-refusal-writes                        | ^memory after a refused list
 untouched   | fold-marked-list-is-refused                | ^number of a list,
@@ -80,10 +86,31 @@ untouched   | fold-lengths-compared-in-32-bits           | ^number of a long lis
 untouched   | fold-lengths-compared-in-32-bits           | ^a refused long list
 untouched   | step-zero-finishes                         | ^number of a written block
 untouched   | step-partial-not-counted                   | ^memory after a written block
+untouched   | step-pseudo-denormal-kept-by-infinity      | ^memory after a written block
+untouched   | run-pseudo-denormal-divisor-refused        | ^number of a written block
 untouched   | step-writes-a-byte-more                    | ^bytes around a block
 untouched   | run-with-no-budget-gives-a-zero            | ^a run with no budget gives the dividend
 untouched   | run-spent-after-two-steps-finishes         | ^number of a run with a budget of 300
 untouched   | run-budget-cut-to-a-byte                   | ^memory after a run with a budget of 300
+untouched   | rem80-pseudo-denormal-kept-by-infinity     | ^remainder of a pseudo-denormal by infinity
+untouched   | step-pseudo-denormal-kept-by-infinity      | ^step of a pseudo-denormal by infinity
+untouched   | run-pseudo-denormal-kept-by-infinity       | ^run of a pseudo-denormal by infinity
+untouched   | rem80-pseudo-denormal-kept-by-a-number     | ^remainder of a pseudo-denormal by 1:
+untouched   | step-pseudo-denormal-kept-by-a-number      | ^step of a pseudo-denormal by 1:
+untouched   | run-pseudo-denormal-kept-by-a-number       | ^run of a pseudo-denormal by 1:
+untouched   | rem80-pseudo-denormal-is-denormal          | ^remainder of a pseudo-denormal by itself
+untouched   | step-pseudo-denormal-is-denormal           | ^step of a pseudo-denormal by itself
+untouched   | run-pseudo-denormal-is-denormal            | ^run of a pseudo-denormal by itself
+untouched   | step-pseudo-denormal-is-denormal           | ^step of a pseudo-denormal by its ordinary pattern
+untouched   | rem80-pseudo-denormal-divisor-is-denormal  | ^remainder of an ordinary pattern by its pseudo-denormal
+untouched   | step-pseudo-denormal-divisor-is-denormal   | ^step of an ordinary pattern by its pseudo-denormal
+untouched   | run-pseudo-denormal-divisor-is-denormal    | ^run of an ordinary pattern by its pseudo-denormal
+untouched   | rem80-pseudo-denormal-divisor-is-zero      | ^remainder of a zero by a pseudo-denormal
+untouched   | step-pseudo-denormal-divisor-is-zero       | ^step of a zero by a pseudo-denormal
+untouched   | run-pseudo-denormal-kept-with-no-budget    | ^a run of a pseudo-denormal with no budget
+untouched   | scale80-pseudo-denormal-kept-by-0          | ^a pseudo-denormal scaled by 0
+untouched   | split80-pseudo-denormal-exponent-too-low   | ^a pseudo-denormal split,
+untouched   | split80-pseudo-denormal-is-denormal        | ^a pseudo-denormal split and scaled back
 untouched   | rem16-only-1-is-nearest                    | ^a kind, binary16
 untouched   | rem32-other-kinds-write-more               | ^memory after a kind, binary32
 untouched   | step-only-1-is-nearest                     | ^a kind of a step
@@ -97,14 +124,26 @@ untouched   | split64-denormal-exponent-from-its-field   | ^an exponent, binary6
 untouched   | split64-denormal-exponent-from-its-field   | ^splitting and back, binary64
 chains 2000 | run-zero-loses-its-sign                    | ^run of
 chains 2000 | run-spent-by-its-last-step                 | ^run of
-chains 2000 | run-bits-of-the-last-step                  | ^run of
+chains 9000 | run-bits-of-the-last-step                  | ^run of
 chains 2000 | run-a-step-too-many                        | ^run of
 chains 2000 | run-refusal-writes                         | ^run of
 chains 2000 | step-zero-loses-its-sign                   | ^steps of
 chains 2000 | step-end-is-refused                        | ^steps of
 chains 2000 | step-c0-lost                               | ^steps of
 chains 2000 | step-refusal-writes                        | ^steps of
-chains 20   | none                                       | has no pair
+chains 2000 | run-pseudo-denormal-kept-with-no-budget    | ^run of [08]000[89A-F].* budget 0:
+chains 2000 | run-pseudo-denormal-kept-by-infinity       | ^run of [08]000[89A-F].* by [7F]FFF8
+chains 2000 | run-pseudo-denormal-kept-by-a-number       | ^run of [08]000[89A-F]
+chains 2000 | run-pseudo-denormal-is-denormal            | ^run of [08]000[89A-F]
+chains 2000 | run-pseudo-denormal-divisor-is-denormal    | ^run of .* by [08]000[89A-F]
+chains 2000 | run-pseudo-denormal-divisor-refused        | ^run of .* by [08]000[89A-F]
+chains 2000 | step-pseudo-denormal-refused               | ^steps of [08]000[89A-F]
+chains 2000 | step-pseudo-denormal-kept-by-infinity      | ^steps of [08]000[89A-F]
+chains 2000 | step-pseudo-denormal-is-denormal           | ^steps of [08]000[89A-F]
+chains 2000 | step-pseudo-denormal-divisor-is-denormal   | ^steps of .* by [08]000[89A-F]
+chains 2000 | step-pseudo-denormal-divisor-is-zero       | ^steps of .* by [08]000[89A-F]
+chains 20   | none                                       | gaps: .* has no pair
+chains 20   | none                                       | pseudo-denormals: .* has no pair
 fold 20     | fold-marked-list-is-refused                | the list is refused
 fold 20     | fold-zero-loses-its-sign                   | the list's answer is not
 fold 20     | fold-mark-is-negative                      | the list's answer is not
@@ -134,25 +173,54 @@ fprem 2000  | step-c3-and-c1-exchanged                   | ^step of
 fprem 2000  | step-quotient-of-four-bits                 | ^step of
 fprem 2000  | step-last-not-counted                      | ^step of
 fprem 2000  | step-writes-a-byte-more                    | ^step of
+fprem 2000  | step-pseudo-denormal-refused               | ^step of [08]000[89A-F]
+fprem 2000  | step-pseudo-denormal-is-denormal           | ^step of [08]000[89A-F].* kind 0
+fprem 2000  | step-pseudo-denormal-is-denormal           | ^step of [08]000[89A-F].* kind 1
+fprem 2000  | step-pseudo-denormal-kept-by-infinity      | ^step of [08]000[89A-F].* by [7F]FFF8
+fprem 2000  | step-pseudo-denormal-kept-by-a-number      | ^step of [08]000[89A-F].* kind 0
+fprem 2000  | step-pseudo-denormal-kept-by-a-number      | ^step of [08]000[89A-F].* kind 1
+fprem 2000  | step-pseudo-denormal-divisor-refused       | ^step of .* by [08]000[89A-F]
+fprem 2000  | step-pseudo-denormal-divisor-is-denormal   | ^step of .* by [08]000[89A-F].* kind 0
+fprem 2000  | step-pseudo-denormal-divisor-is-denormal   | ^step of .* by [08]000[89A-F].* kind 1
+fprem 2000  | step-pseudo-denormal-divisor-is-zero       | ^step of .* by [08]000[89A-F]
 fprem 2000  | run-zero-loses-its-sign                    | ^run of
 fprem 2000  | run-budget-cut-to-a-byte                   | ^run of
 fprem 2000  | run-bits-of-the-last-step                  | ^run of
+fprem 2000  | run-pseudo-denormal-is-denormal            | ^run of [08]000[89A-F]
+fprem 2000  | run-pseudo-denormal-kept-by-infinity       | ^run of [08]000[89A-F].* by [7F]FFF8
+fprem 2000  | run-pseudo-denormal-divisor-is-denormal    | ^run of .* by [08]000[89A-F]
 fprem 2000  | rem80-zero-has-the-divisors-sign           | ^remainder of
 fprem 2000  | rem80-far-quotient-of-two-bits             | ^remainder of
+fprem 2000  | rem80-pseudo-denormal-is-denormal          | ^remainder of [08]000[89A-F]
+fprem 2000  | rem80-pseudo-denormal-kept-by-infinity     | ^remainder of [08]000[89A-F].* by [7F]FFF8
+fprem 2000  | rem80-pseudo-denormal-divisor-is-denormal  | ^remainder of .* by [08]000[89A-F]
 fprem 2000  | step-refusal-told-as-bad-length            | ^refusal of
 fprem 2000  | step-refusal-writes                        | ^refusal of
 fprem 2000  | scale80-nothing-loses-its-sign             | ^scaling of
 fprem 2000  | scale80-overflow-is-down                   | ^scaling of
 fprem 2000  | scale80-nan-is-unsupported                 | ^scaling of
 fprem 2000  | scale80-refusal-writes                     | ^scaling of
+fprem 2000  | scale80-pseudo-denormal-refused            | ^scaling of [08]000[89A-F]
+fprem 2000  | scale80-pseudo-denormal-is-denormal        | ^scaling of [08]000[89A-F]
+fprem 2000  | scale80-pseudo-denormal-one-power-too-low  | ^scaling of [08]000[89A-F]
+fprem 2000  | scale80-pseudo-denormal-kept-by-0          | ^scaling of [08]000[89A-F].* by 0:
+fprem 2000  | scale80-pseudo-infinity-is-infinite        | ^scaling of [7F]FFF0
 fprem 2000  | split80-loses-its-sign                     | ^splitting of
 fprem 2000  | split80-exponent-one-too-low               | ^splitting of
+fprem 2000  | split80-pseudo-denormal-refused            | ^splitting of [08]000[89A-F]
+fprem 2000  | split80-pseudo-denormal-is-denormal        | ^splitting of [08]000[89A-F]
+fprem 2000  | split80-pseudo-denormal-exponent-too-low   | ^splitting of [08]000[89A-F]
 fprem 2000  | scale80-half-of-the-wrong-power            | ^around a half
 fprem 2000  | scale80-64-places-as-63                    | ^around a half
 fprem 2000  | scale80-half-of-a-denormal-up              | ^around a half
 fprem 2000  | scale80-no-place-rounds                    | ^around a half
 fprem 2000  | scale80-nothing-loses-its-sign             | ^around a half
-fprem 20    | none                                       | has no pair
+fprem 2000  | scale80-pseudo-denormal-is-denormal        | ^around a half, [08]000[89A-F]
+fprem 2000  | scale80-pseudo-denormal-kept-by-0          | ^around a half, [08]000[89A-F].* by 0:
+fprem 20    | none                                       | gaps: .* has no pair
+fprem 3     | none                                       | pseudo-denormals: .* has no pair
+fprem 3     | none                                       | ^scaling: no pseudo-denormal
+fprem 3     | none                                       | ^splitting: no pseudo-denormal
 fprem 2000 1 20 | none                                   | ^x87 has no half at 30 places
 libm 2000   | rem64-zero-loses-its-sign                  | ^binary64 .* kind 0
 libm 2000   | rem64-half-always-up                       | ^binary64 .* kind 1
@@ -170,7 +238,20 @@ libm 2000   | rem80-zero-has-the-divisors-sign           | ^x87 .* kind 1
 libm 2000   | rem80-far-quotient-of-two-bits             | ^x87 .* kind 0
 libm 2000   | rem80-far-quotient-of-two-bits             | ^x87 .* kind 1
 libm 2000   | rem80-infinite-dividend-before-unsupported | ^x87 .* by
-libm 20     | none                                       | has no pair
+libm 2000   | rem80-pseudo-denormal-refused              | ^x87 [08]000[89A-F].* kind 0
+libm 2000   | rem80-pseudo-denormal-is-denormal          | ^x87 [08]000[89A-F].* kind 0
+libm 2000   | rem80-pseudo-denormal-is-denormal          | ^x87 [08]000[89A-F].* kind 1
+libm 2000   | rem80-pseudo-denormal-kept-by-infinity     | ^x87 [08]000[89A-F].* by [7F]FFF8.* kind 0
+libm 2000   | rem80-pseudo-denormal-kept-by-infinity     | ^x87 [08]000[89A-F].* by [7F]FFF8.* kind 1
+libm 2000   | rem80-pseudo-denormal-kept-by-a-number     | ^x87 [08]000[89A-F].* kind 0
+libm 2000   | rem80-pseudo-denormal-kept-by-a-number     | ^x87 [08]000[89A-F].* kind 1
+libm 2000   | rem80-pseudo-denormal-divisor-refused      | ^x87 .* by [08]000[89A-F].* kind 1
+libm 2000   | rem80-pseudo-denormal-divisor-is-denormal  | ^x87 .* by [08]000[89A-F].* kind 0
+libm 2000   | rem80-pseudo-denormal-divisor-is-denormal  | ^x87 .* by [08]000[89A-F].* kind 1
+libm 2000   | rem80-pseudo-denormal-divisor-is-zero      | ^x87 .* by [08]000[89A-F]
+libm 2000   | rem80-unnormal-is-a-number                 | ^x87 .* by
+libm 20     | none                                       | gaps: .* has no pair
+libm 20     | none                                       | pseudo-denormals: .* has no pair
 disputed 99 | none                                       | its remainder and remquo differ
 ldexp 2000  | scale16-nothing-loses-its-sign             | ^binary16 .* scaled
 ldexp 2000  | scale16-nothing-left-is-exact              | ^binary16 .* scaled
@@ -182,12 +263,19 @@ ldexp 2000  | scale64-overflow-is-down                   | ^binary64 .* scaled
 ldexp 2000  | scale80-nothing-loses-its-sign             | ^x87 .* scaled
 ldexp 2000  | scale80-overflow-is-down                   | ^x87 .* scaled
 ldexp 2000  | scale80-refusal-writes                     | ^x87 .* scaled
+ldexp 2000  | scale80-pseudo-denormal-refused            | ^x87 [08]000[89A-F].* scaled
+ldexp 2000  | scale80-pseudo-denormal-is-denormal        | ^x87 [08]000[89A-F].* scaled
+ldexp 2000  | scale80-pseudo-denormal-one-power-too-low  | ^x87 [08]000[89A-F].* scaled
+ldexp 2000  | scale80-pseudo-denormal-kept-by-0          | ^x87 [08]000[89A-F].* scaled by 0
 ldexp 2000  | split16-denormal-loses-its-sign            | ^binary16 .* split
 ldexp 2000  | split32-zero-is-five                       | ^binary32 .* split
 ldexp 2000  | split64-denormal-exponent-from-its-field   | ^binary64 .* split
 ldexp 2000  | split64-refusal-writes                     | ^binary64 .* split
 ldexp 2000  | split80-loses-its-sign                     | ^x87 .* split
 ldexp 2000  | split80-exponent-one-too-low               | ^x87 .* split
+ldexp 2000  | split80-pseudo-denormal-refused            | ^x87 [08]000[89A-F].* split
+ldexp 2000  | split80-pseudo-denormal-is-denormal        | ^x87 [08]000[89A-F].* split
+ldexp 2000  | split80-pseudo-denormal-exponent-too-low   | ^x87 [08]000[89A-F].* split
 ldexp 2000  | scale16-half-always-up                     | ^binary16 .* around a half
 ldexp 2000  | scale16-nothing-loses-its-sign             | ^binary16 .* around a half
 ldexp 2000  | scale32-half-always-down                   | ^binary32 .* around a half
@@ -197,8 +285,11 @@ ldexp 2000  | scale64-half-of-a-denormal-up              | ^binary64 .* around a
 ldexp 2000  | scale80-half-of-the-wrong-power            | ^x87 .* around a half
 ldexp 2000  | scale80-64-places-as-63                    | ^x87 .* around a half
 ldexp 2000  | scale80-half-of-a-denormal-up              | ^x87 .* around a half
-ldexp 2000 1 20 | none                                   | ^binary64 has no half at 30 places
 ldexp 2000  | scale80-no-place-rounds                    | ^x87 .* around a half
+ldexp 2000  | scale80-pseudo-denormal-is-denormal        | ^x87 [08]000[89A-F].* around a half
+ldexp 2000  | scale80-pseudo-denormal-kept-by-0          | ^x87 [08]000[89A-F].* around a half by 0:
+ldexp 2000 1 20 | none                                   | ^binary64 has no half at 30 places
+ldexp 5     | none                                       | ^x87: no pseudo-denormal
 stems 2000  | stem-open-most-is-3999                     | ^a good file: the number
 stems 2000  | stem-open-start-one-point-too-far          | ^a good file: what is written
 stems 2000  | stem-open-start-one-point-too-far          | ^a good file: other points
@@ -270,23 +361,25 @@ stems 2000  | stem-fold-half-to-odd                      | ^a point: at a half
 stems 2000  | stem-fold-origin-added                     | ^a point of a file:
 stems 1     | none                                       | has no point
 sanitized 2000 | stem-open-start-one-point-too-far       | heap-buffer-overflow
-modes 800   | rem32-last-bit-as-the-rounding-mode-says   | ^remainder: another answer
+modes 1600  | rem32-last-bit-as-the-rounding-mode-says   | ^remainder: another answer
 modes 8000  | rem64-zero-divisor-is-divided-by           | ^remainder: a trap
 modes 8000  | rem64-zero-divisor-is-divided-by           | ^remainder: a flag is raised
-modes 800   | rem16-leaves-another-precision             | ^remainder: another environment is left
-modes 800   | step-c0-lost-in-another-precision          | ^step: another answer
-modes 800   | run-bits-as-the-control-word-rounds        | ^run: another answer
-modes 800   | scale80-rounded-as-the-control-word-says   | ^scaling: another answer
-modes 800   | scale80-rounded-as-the-control-word-says   | ^scaling: a trap
-modes 800   | split32-zero-as-the-processor-compares     | ^split: another answer
-modes 800   | split16-leaves-another-rounding-mode       | ^split: another environment is left
-modes 800   | fold-flushes-as-the-processor-does         | ^list: another answer
-modes 800   | fold-flushes-as-the-processor-does         | ^list: a trap
-modes 800   | stem-open-period-compared-by-the-processor | ^stem file: another answer
-modes 800   | stem-open-period-compared-by-the-processor | ^stem file: a trap
-modes 800   | stem-fold-rounds-as-the-processor-does     | ^stem point: another answer with MXCSR 3F80
-modes 800   | stem-fold-flushes-as-the-processor-does    | ^stem point: another answer
-modes 800   | stem-fold-traps-as-the-processor-does      | ^stem point: a trap
+modes 1600  | rem16-leaves-another-precision             | ^remainder: another environment is left
+modes 1600  | step-c0-lost-in-another-precision          | ^step: another answer
+modes 1600  | run-bits-as-the-control-word-rounds        | ^run: another answer
+modes 1600  | scale80-rounded-as-the-control-word-says   | ^scaling: another answer
+modes 1600  | scale80-rounded-as-the-control-word-says   | ^scaling: a trap
+modes 1600  | split32-zero-as-the-processor-compares     | ^split: another answer
+modes 1600  | split16-leaves-another-rounding-mode       | ^split: another environment is left
+modes 1600  | split80-pseudo-denormal-in-the-x87-unit    | ^split: a trap
+modes 1600  | split80-pseudo-denormal-in-the-x87-unit    | ^split: a flag is raised
+modes 1600  | fold-flushes-as-the-processor-does         | ^list: another answer
+modes 1600  | fold-flushes-as-the-processor-does         | ^list: a trap
+modes 1600  | stem-open-period-compared-by-the-processor | ^stem file: another answer
+modes 1600  | stem-open-period-compared-by-the-processor | ^stem file: a trap
+modes 1600  | stem-fold-rounds-as-the-processor-does     | ^stem point: another answer with MXCSR 3F80
+modes 1600  | stem-fold-flushes-as-the-processor-does    | ^stem point: another answer
+modes 1600  | stem-fold-traps-as-the-processor-does      | ^stem point: a trap
 modes 8     | none                                       | has no question
 host        | rem64-last-bit-is-wrong                    | ^C++ host: FAILED
 host        | rem64-quotient-of-one-bit                  | ^C++ host: FAILED

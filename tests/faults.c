@@ -127,14 +127,49 @@ uint8_t zk_rem64(uint64_t x, uint64_t y, uint32_t kind, uint64_t *value, uint32_
     return number;
 }
 
+/* x87 operands as a fault takes them. */
+
+static int is_pseudo_denormal(uint64_t x, uint16_t xw) {
+    return (xw & 32767) == 0 && x >= sign64;
+}
+
+/* A pseudo-denormal as an unsupported pattern, with e = 1 and J = 0; as a denormal, without its leading one; or as a zero. */
+static void mistake(uint64_t *x, uint16_t *xw, int for_unsupported, int for_denormal, int for_zero) {
+    if (!is_pseudo_denormal(*x, *xw))
+        return;
+    if (for_unsupported)
+        *xw |= 1;
+    if (for_unsupported || for_denormal)
+        *x &= ~sign64;
+    if (for_zero)
+        *x = 0;
+}
+
+/* Whether a pseudo-denormal dividend that comes back keeps its pattern: by an infinite divisor, or by a finite one. */
+static int keeps(uint64_t x, uint16_t xw, uint16_t yw, uint64_t value, int by_infinity, int by_a_number) {
+    return is_pseudo_denormal(x, xw) && value == x && ((yw & 32767) == 32767 ? by_infinity : by_a_number);
+}
+
+/* An unnormal, e from 1 to 32766 with J = 0, as if it had its leading one. */
+static uint64_t normalised(uint64_t x, uint16_t xw) {
+    int e = xw & 32767;
+    return e > 0 && e < 32767 ? x | sign64 : x;
+}
+
 uint8_t zk_rem80(uint64_t x, uint16_t xw, uint64_t y, uint16_t yw, uint32_t kind, uint64_t *value, uint16_t *valuew,
                         uint32_t *quotient) {
     uint8_t number;
-    if (fault("rem80-pseudo-denormal-is-a-number")) {
-        xw += (xw & 32767) == 0 && x >= sign64; /* e = 0 with J = 1 is taken as a number */
-        yw += (yw & 32767) == 0 && y >= sign64;
+    mistake(&x, &xw, fault("rem80-pseudo-denormal-refused"), fault("rem80-pseudo-denormal-is-denormal"), 0);
+    mistake(&y, &yw, fault("rem80-pseudo-denormal-divisor-refused"), fault("rem80-pseudo-denormal-divisor-is-denormal"),
+            fault("rem80-pseudo-denormal-divisor-is-zero"));
+    if (fault("rem80-unnormal-is-a-number")) {
+        x = normalised(x, xw);
+        y = normalised(y, yw);
     }
     number = real_zk_rem80(x, xw, y, yw, kind, value, valuew, quotient);
+    if (number == ZK_FINISHED &&
+        keeps(x, xw, yw, *value, fault("rem80-pseudo-denormal-kept-by-infinity"), fault("rem80-pseudo-denormal-kept-by-a-number")))
+        *valuew = xw;
     if (fault("rem80-far-quotient-of-two-bits") && number == ZK_FINISHED && (int)(xw & 32767) - (int)(yw & 32767) >= 40)
         *quotient &= 3;
     if (fault("rem80-infinite-dividend-before-unsupported") && number == ZK_UNSUPPORTED && (xw & 32767) == 32767 && x == sign64)
@@ -158,7 +193,13 @@ uint8_t zk_step80(uint64_t x, uint16_t xw, uint64_t y, uint16_t yw, uint32_t siz
         length = (uint32_t)length;
     if (fault("step-only-1-is-nearest"))
         kind = kind == 1;
+    mistake(&x, &xw, fault("step-pseudo-denormal-refused"), fault("step-pseudo-denormal-is-denormal"), 0);
+    mistake(&y, &yw, fault("step-pseudo-denormal-divisor-refused"), fault("step-pseudo-denormal-divisor-is-denormal"),
+            fault("step-pseudo-denormal-divisor-is-zero"));
     number = real_zk_step80(x, xw, y, yw, size, kind, block, length);
+    if (number == ZK_FINISHED && keeps(x, xw, yw, zk_block_significand(block), fault("step-pseudo-denormal-kept-by-infinity"),
+                                       fault("step-pseudo-denormal-kept-by-a-number")))
+        block[8] = 0;
     if (fault("step-c3-and-c1-exchanged") && number == ZK_FINISHED)
         block[11] = (block[11] & 4) | (block[11] & 1) << 1 | (block[11] >> 1 & 1);
     if (fault("step-c0-lost-in-another-precision") && number == ZK_FINISHED && (x87_control() & 0x0300) != 0x0300)
@@ -205,7 +246,15 @@ uint8_t zk_run80(uint64_t x, uint16_t xw, uint64_t y, uint16_t yw, uint32_t size
         length = (uint32_t)length;
     if (fault("run-only-1-is-nearest"))
         kind = kind == 1;
+    mistake(&x, &xw, fault("run-pseudo-denormal-refused"), fault("run-pseudo-denormal-is-denormal"), 0);
+    mistake(&y, &yw, fault("run-pseudo-denormal-divisor-refused"), fault("run-pseudo-denormal-divisor-is-denormal"),
+            fault("run-pseudo-denormal-divisor-is-zero"));
     number = real_zk_run80(x, xw, y, yw, size, kind, budget, block, length);
+    if (number == ZK_FINISHED && keeps(x, xw, yw, zk_block_significand(block), fault("run-pseudo-denormal-kept-by-infinity"),
+                                       fault("run-pseudo-denormal-kept-by-a-number")))
+        block[8] = 0;
+    if (fault("run-pseudo-denormal-kept-with-no-budget") && number == ZK_SPENT && budget == 0 && is_pseudo_denormal(x, xw))
+        block[8] = 0;
     if (fault("run-zero-loses-its-sign") && number == ZK_FINISHED && zk_block_significand(block) == 0)
         block[9] = 0;
     if (fault("run-refusal-writes") && number == ZK_NAN)
@@ -326,11 +375,16 @@ uint8_t zk_scale64(uint64_t x, int32_t power, uint64_t *value, uint8_t *says) {
 
 uint8_t zk_scale80(uint64_t x, uint16_t xw, int32_t power, uint64_t *value, uint16_t *valuew, uint8_t *says) {
     uint8_t number;
-    if (fault("scale80-pseudo-denormal-is-a-number") && (xw & 32767) == 0 && x > sign64)
-        xw++; /* e = 0 with J = 1 is taken as a number */
+    mistake(&x, &xw, fault("scale80-pseudo-denormal-refused"), fault("scale80-pseudo-denormal-is-denormal"), 0);
+    if (fault("scale80-pseudo-infinity-is-infinite") && (xw & 32767) == 32767 && x == 0)
+        x = sign64; /* e = 32767 with J = 0 is taken as an infinity */
+    if (fault("scale80-pseudo-denormal-one-power-too-low") && is_pseudo_denormal(x, xw) && power != INT32_MIN)
+        power--; /* its e is taken as it is, and not as 1 */
     if (fault("scale80-64-places-as-63") && places80(x, xw, power) == 64)
         power++;
     number = real_zk_scale80(x, xw, power, value, valuew, says);
+    if (fault("scale80-pseudo-denormal-kept-by-0") && number == ZK_FINISHED && is_pseudo_denormal(x, xw) && power == 0)
+        *valuew = xw;
     if (fault("scale80-half-of-a-denormal-up") && number == ZK_FINISHED && *says == ZK_DOWN && (xw & 32767) == 0 && power == -14 &&
         said80(x, xw, power + 1) == ZK_EXACT) {
         *value += 1;
@@ -396,9 +450,16 @@ uint8_t zk_split64(uint64_t x, uint64_t *significand, int32_t *exponent) {
 
 uint8_t zk_split80(uint64_t x, uint16_t xw, uint64_t *significand, uint16_t *significandw, int32_t *exponent) {
     uint8_t number;
-    if (fault("split80-pseudo-denormal-is-a-number") && (xw & 32767) == 0 && x >= sign64)
-        xw++; /* e = 0 with J = 1 is taken as a number */
+    mistake(&x, &xw, fault("split80-pseudo-denormal-refused"), fault("split80-pseudo-denormal-is-denormal"), 0);
+    if (fault("split80-pseudo-denormal-in-the-x87-unit") && is_pseudo_denormal(x, xw)) {
+        volatile long double product = zk_long_double_of_pattern(x, xw), one = 1;
+        product *= one; /* the unit takes it as a denormal operand */
+    }
     number = real_zk_split80(x, xw, significand, significandw, exponent);
+    if (fault("split80-pseudo-denormal-exponent-too-low") && number == ZK_FINISHED && is_pseudo_denormal(x, xw))
+        *exponent -= 1; /* its e is taken as it is, and not as 1 */
+    if (fault("split80-pseudo-nan-is-a-nan") && number == ZK_UNSUPPORTED && (xw & 32767) == 32767 && x != 0)
+        return ZK_NAN; /* e = 32767 with J = 0 is taken as a NaN */
     if (fault("split80-from-a-half-to-1") && number == ZK_FINISHED)
         *exponent += 1, *significandw -= 1; /* as frexp splits, from a half to below 1 */
     if (fault("split80-loses-its-sign") && number == ZK_FINISHED)

@@ -22,7 +22,8 @@ c_only='rem16-refusal-writes rem64-refusal-writes scale16-refusal-writes scale80
     stem-open-reads-the-last-point-of-the-count stem-open-asks-for-memory stem-open-keeps-memory
     rem32-last-bit-as-the-rounding-mode-says rem64-zero-divisor-is-divided-by rem16-leaves-another-precision
     step-c0-lost-in-another-precision run-bits-as-the-control-word-rounds scale80-rounded-as-the-control-word-says
-    split32-zero-as-the-processor-compares split16-leaves-another-rounding-mode fold-flushes-as-the-processor-does
+    split32-zero-as-the-processor-compares split16-leaves-another-rounding-mode split80-pseudo-denormal-in-the-x87-unit
+    fold-flushes-as-the-processor-does
     stem-open-period-compared-by-the-processor stem-fold-rounds-as-the-processor-does stem-fold-flushes-as-the-processor-does
     stem-fold-traps-as-the-processor-does'
 c_only=$(echo $c_only)

@@ -1,5 +1,6 @@
 /*
  * Steps and runs against the processor's own FPREM and FPREM1, scaling against FSCALE, splitting against FXTRACT. x86-64 only.
+ * All four take pseudo-denormals, and give the ordinary pattern also where the value of their operand comes back.
  *
  *   fprem [PAIRS [SEED [PLACES]]]    so many of each, then scalings around halves, by up to PLACES places (130)
  */
@@ -81,13 +82,8 @@ static int is_nan(struct pattern x) {
     return (x.word & 32767) == 32767 && x.bits << 1 != 0;
 }
 
-/* The processor takes e = 0 with J = 1 as a number, the library refuses it: nothing to compare. */
-static int is_pseudo_denormal(struct pattern x) {
-    return (x.word & 32767) == 0 && x.bits >> 63;
-}
-
 static struct {
-    uint64_t chains, finished, partial, refused, skipped, usual;
+    uint64_t chains, finished, partial, refused, usual;
 } count;
 
 static void print_step(const char *what, struct pattern x, struct pattern y, uint32_t kind, struct pattern theirs, struct flags c,
@@ -187,10 +183,6 @@ static void compare_pairs(uint64_t pairs, uint64_t *state) {
     for (i = 0; going(i, pairs); i++) {
         struct pair p = any_pair(X87, state);
         uint32_t size = (uint32_t)between(state, 32, 63), kind = (uint32_t)below(state, 2);
-        if (is_pseudo_denormal(p.x) || is_pseudo_denormal(p.y)) {
-            count.skipped++;
-            continue;
-        }
         cover(&seen, X87, p);
         if (is_refused(p.x, p.y))
             compare_refusal(p.x, p.y, kind, size);
@@ -200,7 +192,7 @@ static void compare_pairs(uint64_t pairs, uint64_t *state) {
     printf("chains: %" PRIu64 " compared to their end; %" PRIu64 " finished steps, %" PRIu64 " partial ones, of which %" PRIu64
            " with n = 32 + D mod 32\n",
            count.chains, count.finished, count.partial, count.usual);
-    printf("  refused by both %" PRIu64 ", pseudo-denormals not compared %" PRIu64 "\n", count.refused, count.skipped);
+    printf("  refused by both %" PRIu64 "\n", count.refused);
     print_coverage(&seen, X87);
 }
 
@@ -208,12 +200,13 @@ static void compare_pairs(uint64_t pairs, uint64_t *state) {
 static int32_t any_power(struct pattern x, uint64_t *state) {
     int place = 0;
     leading_place(X87, x, &place);
-    switch (below(state, 6)) {
+    switch (below(state, 7)) {
     case 0: return formats[X87].smallest - place + between(state, -3, 70);
     case 1: return formats[X87].bias - place + between(state, -2, 2);
     case 2: return between(state, -100, 100);
     case 3: return between(state, -40000, 40000);
     case 4: return below(state, 2) ? INT32_MIN : INT32_MAX;
+    case 5: return between(state, -1, 1);
     default: return (int32_t)(draw(state) >> 33) - (1 << 30);
     }
 }
@@ -241,19 +234,17 @@ static int compare_scaling(const char *what, struct pattern x, int32_t power) {
 }
 
 static void compare_scalings(uint64_t cases, uint64_t *state) {
-    uint64_t i, compared = 0, rounded = 0, refused = 0;
+    uint64_t i, rounded = 0, refused = 0, pseudo = 0;
     for (i = 0; going(i, cases); i++) {
         struct pattern x = any_operand(state);
-        int32_t power = any_power(x, state);
-        int says;
-        if (is_pseudo_denormal(x))
-            continue;
-        compared++;
-        says = compare_scaling("scaling of", x, power);
+        int says = compare_scaling("scaling of", x, any_power(x, state));
         refused += says == REFUSED;
         rounded += says == ZK_UP || says == ZK_DOWN;
+        pseudo += (uint64_t)is_pseudo_denormal(x);
     }
-    printf("scaling: %" PRIu64 " cases, %" PRIu64 " rounded, %" PRIu64 " refused by both\n", compared, rounded, refused);
+    printf("scaling: %" PRIu64 " cases, %" PRIu64 " of them pseudo-denormals; %" PRIu64 " rounded, %" PRIu64 " refused by both\n", cases,
+           pseudo, rounded, refused);
+    need_pseudo_denormals("scaling", pseudo);
 }
 
 /* What the processor says around halves. */
@@ -276,17 +267,19 @@ static void compare_halves(int most) {
 
 /* Only nonzero finite values: FXTRACT answers zeros and infinities otherwise than the library. */
 static void compare_splitting(uint64_t cases, uint64_t *state) {
-    uint64_t i;
+    uint64_t i, pseudo = 0;
     for (i = 0; going(i, cases); i++) {
         struct pattern x = any_finite(X87, state);
         int32_t exponent;
         struct pattern theirs = processor_split(x, &exponent);
         struct reply ours = call_split(X87, x);
+        pseudo += (uint64_t)is_pseudo_denormal(x);
         if ((ours.number != 0 || ours.touched || !same(ours.value, theirs) || ours.exponent != exponent) && differs())
             printf("splitting of %s:\n  zukemoriha %s %ld number %u\n  processor  %s %ld\n", text(X87, x), text(X87, ours.value),
                    (long)ours.exponent, ours.number, text(X87, theirs), (long)exponent);
     }
-    printf("splitting: %" PRIu64 " cases\n", cases);
+    printf("splitting: %" PRIu64 " cases, %" PRIu64 " of them pseudo-denormals\n", cases, pseudo);
+    need_pseudo_denormals("splitting", pseudo);
 }
 
 int main(int argc, char **argv) {

@@ -36,10 +36,18 @@ static inline int lowest_exponent(int f, uint64_t significand) {
     return exponent;
 }
 
-static inline void scale_from(struct halves *h, struct operand o) {
-    h->compare(h->f, encode(h->f, o), formats[h->f].smallest + 63 - o.exponent - h->places);
+static inline void scale_pattern(struct halves *h, struct pattern x, struct operand o) {
+    h->compare(h->f, x, formats[h->f].smallest + 63 - o.exponent - h->places);
     if (is_half(o.significand, h->places))
         h->found[h->places]++;
+}
+
+/* Where a value has a pseudo-denormal too, from both patterns. */
+static inline void scale_from(struct halves *h, struct operand o) {
+    struct pattern x = encode(h->f, o);
+    scale_pattern(h, x, o);
+    if (has_pseudo_denormal(x))
+        scale_pattern(h, pseudo_denormal_of(x), o);
 }
 
 /* From the lowest exponent, and where it is above that from the largest of a denormal, the smallest of a normal number, 0 and the largest;

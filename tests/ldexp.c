@@ -144,7 +144,7 @@ static void compare_splitting(int f, struct pattern x, struct theirs c) {
 }
 
 static void compare_format(int f, uint64_t cases, uint64_t seed) {
-    uint64_t i, state = seed + (uint64_t)f, refused = 0, said[3] = {0, 0, 0};
+    uint64_t i, state = seed + (uint64_t)f, refused = 0, pseudo = 0, said[3] = {0, 0, 0};
     next_part();
     for (i = 0; going(i, cases); i++) {
         struct pattern x = any_pair(f, &state).x;
@@ -158,11 +158,16 @@ static void compare_format(int f, uint64_t cases, uint64_t seed) {
             refused++;
         else
             said[c.says]++;
+        pseudo += f == X87 && is_pseudo_denormal(x);
         compare_scaling(f, x, power, c, "scaled");
         compare_splitting(f, x, c);
     }
     printf("%s: %" PRIu64 " scaled exactly, %" PRIu64 " up, %" PRIu64 " down, %" PRIu64 " refused, and all of them split\n", formats[f].name,
            said[ZK_EXACT], said[ZK_UP], said[ZK_DOWN], refused);
+    if (f != X87)
+        return;
+    printf("  pseudo-denormals: %" PRIu64 "\n", pseudo);
+    need_pseudo_denormals(formats[f].name, pseudo);
 }
 
 /* What the C library says around halves. */

@@ -64,7 +64,8 @@ static struct theirs ask80(struct pattern px, struct pattern py) {
     r = remainderl(x, y);
     n = remquol(x, y, &c.quotient);
     c.truncated = pattern_of(t);
-    c.nearest = pattern_of(n);
+    /* glibc's remquol alone gives a pseudo-denormal back as it came, by divisors with e from 32764 on */
+    c.nearest = ordinary(pattern_of(n));
     c.number = NUMBER(x, y);
     c.is_nan = isnan(t) && isnan(r) && isnan(n);
     c.disputed = DISPUTED(r, n);

@@ -60,6 +60,37 @@ static inline struct pattern encode(int f, struct operand o) {
     return signed_pattern(f, o.negative, s, o.exponent + bias);
 }
 
+/* A pseudo-denormal: an x87 pattern with e = 0 and J = 1. It stands for what e = 1 with the same significand stands for. */
+static inline int is_pseudo_denormal(struct pattern x) {
+    return (x.word & 32767) == 0 && x.bits >> 63;
+}
+
+/* The x87 pattern that results with the value of x are written in. */
+static inline struct pattern ordinary(struct pattern x) {
+    x.word |= (uint16_t)is_pseudo_denormal(x);
+    return x;
+}
+
+/* Whether an ordinary pattern has a pseudo-denormal of its value. In the other formats, where the word is 0, none has. */
+static inline int has_pseudo_denormal(struct pattern x) {
+    return (x.word & 32767) == 1 && x.bits >> 63;
+}
+
+static inline struct pattern pseudo_denormal_of(struct pattern x) {
+    x.word &= 0x8000;
+    return x;
+}
+
+/* The exponent of every pseudo-denormal is that of the smallest normal number. One x87 value in eight is drawn there ... */
+static inline int at_lowest_normal(int f, uint64_t *state) {
+    return f == X87 && below(state, 8) == 0;
+}
+
+/* ... and is a pseudo-denormal three times in four. */
+static inline struct pattern in_either_pattern(struct pattern x, uint64_t *state) {
+    return has_pseudo_denormal(x) && below(state, 4) ? pseudo_denormal_of(x) : x;
+}
+
 static inline uint64_t any_significand(uint64_t *state) {
     const uint64_t top = UINT64_C(1) << 63;
     switch (below(state, 8)) {
@@ -117,12 +148,23 @@ struct pair {
     struct pattern x, y;
 };
 
-static inline struct pair pair_with_gap(int f, int gap, uint64_t *state) {
+/* One that leaves the dividend's in the range; at times either is that of the smallest normal number, where the gap lets it. */
+static inline int divisor_exponent(int f, int gap, uint64_t *state) {
     int smallest = formats[f].smallest, bias = formats[f].bias;
     int from = gap < 0 ? smallest - gap : smallest, to = gap > 0 ? bias - gap : bias;
+    int exponent = below(state, 4) == 0 ? from : below(state, 4) == 0 ? to : between(state, from, to);
+    if (at_lowest_normal(f, state)) {
+        int lowest = below(state, 2) ? 1 - bias : 1 - bias - gap;
+        if (lowest >= from && lowest <= to)
+            return lowest;
+    }
+    return exponent;
+}
+
+static inline struct pair pair_with_gap(int f, int gap, uint64_t *state) {
     struct operand x, y;
     struct pair p;
-    y.exponent = below(state, 4) == 0 ? from : below(state, 4) == 0 ? to : between(state, from, to);
+    y.exponent = divisor_exponent(f, gap, state);
     x.exponent = y.exponent + gap;
     x.negative = below(state, 2);
     y.negative = below(state, 2);
@@ -132,8 +174,8 @@ static inline struct pair pair_with_gap(int f, int gap, uint64_t *state) {
     case 1: x.significand = y.significand ^ UINT64_C(1) << (64 - formats[f].precision); break; /* a neighbour */
     default: x.significand = any_significand(state);
     }
-    p.x = encode(f, x);
-    p.y = encode(f, y);
+    p.x = in_either_pattern(encode(f, x), state);
+    p.y = in_either_pattern(encode(f, y), state);
     return p;
 }
 
@@ -143,26 +185,30 @@ static inline struct pair tied_pair(int f, uint64_t *state) {
     int small = below(state, 8) + 1;
     uint64_t m = (draw(state) >> (64 - small)) | 1;
     uint64_t k = (draw(state) >> (64 - between(state, 1, p - small))) | 1;
+    struct operand x = operand_of(k * m, 0), y = operand_of(m, 1);
     int place = below(state, 4) == 0 ? formats[f].smallest : between(state, formats[f].smallest, formats[f].bias - p);
-    struct operand x = operand_of(k * m, place), y = operand_of(m, place + 1);
     struct pair r;
+    if (at_lowest_normal(f, state))
+        place = 1 - formats[f].bias - (below(state, 2) ? x.exponent : y.exponent);
+    x.exponent += place;
+    y.exponent += place;
     x.negative = below(state, 2);
     y.negative = below(state, 2);
-    r.x = encode(f, x);
-    r.y = encode(f, y);
+    r.x = in_either_pattern(encode(f, x), state);
+    r.y = in_either_pattern(encode(f, y), state);
     return r;
 }
 
-/* x87 patterns that are no numbers: e = 0 with J = 1, e from 1 with J = 0. */
+/* x87 patterns that are no numbers: e from 1 with J = 0. */
 static inline struct pattern unsupported(uint64_t *state) {
-    const uint64_t top = UINT64_C(1) << 63;
-    uint64_t bits = below(state, 4) ? draw(state) : 0;
+    uint64_t bits = below(state, 4) ? draw(state) >> 1 : 0;
     int negative = below(state, 2);
-    switch (below(state, 3)) {
-    case 0: return signed_pattern(X87, negative, bits | top, 0);
-    case 1: return signed_pattern(X87, negative, bits & ~top, between(state, 1, 32766));
-    default: return signed_pattern(X87, negative, bits & ~top, 32767);
-    }
+    return signed_pattern(X87, negative, bits, below(state, 2) ? between(state, 1, 32766) : 32767);
+}
+
+static inline struct pattern any_pseudo_denormal(uint64_t *state) {
+    int negative = below(state, 2);
+    return signed_pattern(X87, negative, any_significand(state), 0);
 }
 
 static inline struct pattern infinity(int f, int negative) {
@@ -181,15 +227,18 @@ static inline struct pattern any_finite(int f, uint64_t *state) {
     struct operand o;
     o.negative = below(state, 2);
     o.exponent = between(state, formats[f].smallest, formats[f].bias);
+    if (at_lowest_normal(f, state))
+        o.exponent = 1 - formats[f].bias;
     o.significand = any_significand(state);
-    return encode(f, o);
+    return in_either_pattern(encode(f, o), state);
 }
 
 static inline struct pattern any_special(int f, uint64_t *state) {
-    switch (below(state, f == X87 ? 4 : 3)) {
+    switch (below(state, f == X87 ? 5 : 3)) {
     case 0: return signed_pattern(f, below(state, 2), 0, 0);
     case 1: return infinity(f, below(state, 2));
     case 2: return any_nan(f, state);
+    case 3: return any_pseudo_denormal(state);
     default: return unsupported(state);
     }
 }
@@ -231,8 +280,7 @@ static inline struct pair any_pair(int f, uint64_t *state) {
 
 /* An x87 pattern that the scope calls unsupported. */
 static inline int is_unsupported(struct pattern x) {
-    int e = x.word & 32767, j = (int)(x.bits >> 63);
-    return e == 0 ? j : !j;
+    return (x.word & 32767) != 0 && x.bits >> 63 == 0;
 }
 
 /* The place of the leading one, or 0 returned if the pattern is not nonzero and finite. */
@@ -257,17 +305,28 @@ static inline int leading_place(int f, struct pattern x, int *place) {
     return 1;
 }
 
-/* How many pairs of each band there were; pairs that have no gap (zeros, infinities, NaNs, unsupported) are counted last. */
+/* Which operands of a pair are pseudo-denormals. */
+enum { NEITHER, DIVIDEND, DIVISOR, BOTH, ROLES };
+
+static const char *const role_names[ROLES] = {"neither", "dividend", "divisor", "both"};
+
+/*
+ * How many pairs of each band there were; pairs that have no gap (zeros, infinities, NaNs, unsupported) are counted last. The others, of
+ * x87, are counted by the role of their pseudo-denormals too.
+ */
 struct coverage {
-    uint64_t bands[BANDS + 1];
+    uint64_t bands[BANDS + 1], roles[ROLES];
 };
 
 static inline void cover(struct coverage *c, int f, struct pair p) {
     int ex, ey;
-    if (leading_place(f, p.x, &ex) && leading_place(f, p.y, &ey))
-        c->bands[band_of(f, ex - ey)]++;
-    else
+    if (!leading_place(f, p.x, &ex) || !leading_place(f, p.y, &ey)) {
         c->bands[BANDS]++;
+        return;
+    }
+    c->bands[band_of(f, ex - ey)]++;
+    if (f == X87)
+        c->roles[is_pseudo_denormal(p.x) * DIVIDEND + is_pseudo_denormal(p.y) * DIVISOR]++;
 }
 
 /* Whether the format has a gap in the band. */
@@ -275,17 +334,33 @@ static inline int has_band(int f, int band) {
     return band == LARGEST || band <= band_of(f, largest_gap(f) - 1);
 }
 
-/* A band that the format has and no pair fell into would leave the comparison with a hole: it counts as a difference. */
+/* A band that the format has, or a role of pseudo-denormals, without a pair would leave the comparison with a hole: it is a difference. */
+static inline void print_pairs(const char *of, uint64_t pairs) {
+    if (pairs)
+        printf(" %s %" PRIu64 ",", of, pairs);
+    else if (differs())
+        printf(" %s has no pair,", of);
+}
+
 static inline void print_coverage(const struct coverage *c, int f) {
-    int b;
+    int b, r;
     printf("  gaps:");
-    for (b = 0; b < BANDS; b++) {
-        if (c->bands[b])
-            printf(" %s %" PRIu64 ",", band_names[b], c->bands[b]);
-        else if (has_band(f, b) && differs())
-            printf(" %s has no pair,", band_names[b]);
-    }
+    for (b = 0; b < BANDS; b++)
+        if (c->bands[b] || has_band(f, b))
+            print_pairs(band_names[b], c->bands[b]);
     printf(" none %" PRIu64 "\n", c->bands[BANDS]);
+    if (f != X87)
+        return;
+    printf("  pseudo-denormals:");
+    for (r = DIVIDEND; r < ROLES; r++)
+        print_pairs(role_names[r], c->roles[r]);
+    printf(" neither %" PRIu64 "\n", c->roles[NEITHER]);
+}
+
+/* So is a part of a test without a pseudo-denormal. */
+static inline void need_pseudo_denormals(const char *part, uint64_t count) {
+    if (count == 0 && differs())
+        printf("%s: no pseudo-denormal\n", part);
 }
 
 /* The arguments of a comparison: how many cases, and the seed of their sequence. */

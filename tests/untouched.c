@@ -38,13 +38,14 @@ static void check_bytes(const void *got, const void *want, size_t n, const char 
     print_bytes("expected", (const unsigned char *)want, n);
 }
 
-/* One pattern of each class, for each format. */
-enum { UNSUPPORTED, NAN_QUIET, NAN_SIGNALLING, INFINITE, ZERO, DENORMAL, NORMAL, CLASSES };
+/* One pattern of each class, for each format. The first two are in x87 alone. */
+enum { UNSUPPORTED, PSEUDO_DENORMAL, NAN_QUIET, NAN_SIGNALLING, INFINITE, ZERO, DENORMAL, NORMAL, CLASSES };
 
 static const struct pattern samples[FORMATS][CLASSES] = {
-    {{0, 0}, {0xFE01, 0}, {0x7C01, 0}, {0xFC00, 0}, {0x8000, 0}, {0x8001, 0}, {0x3C00, 0}},
-    {{0, 0}, {0xFFC00001, 0}, {0x7F800001, 0}, {0xFF800000, 0}, {0x80000000, 0}, {0x80000001, 0}, {0x3F800000, 0}},
+    {{0, 0}, {0, 0}, {0xFE01, 0}, {0x7C01, 0}, {0xFC00, 0}, {0x8000, 0}, {0x8001, 0}, {0x3C00, 0}},
+    {{0, 0}, {0, 0}, {0xFFC00001, 0}, {0x7F800001, 0}, {0xFF800000, 0}, {0x80000000, 0}, {0x80000001, 0}, {0x3F800000, 0}},
     {{0, 0},
+     {0, 0},
      {UINT64_C(0xFFF8000000000001), 0},
      {UINT64_C(0x7FF0000000000001), 0},
      {UINT64_C(0xFFF0000000000000), 0},
@@ -52,6 +53,7 @@ static const struct pattern samples[FORMATS][CLASSES] = {
      {UINT64_C(0x8000000000000001), 0},
      {UINT64_C(0x3FF0000000000000), 0}},
     {{UINT64_C(0x4000000000000000), 0x3FFF},
+     {UINT64_C(0x8000000000000001), 0x8000},
      {UINT64_C(0xC000000000000001), 0xFFFF},
      {UINT64_C(0x8000000000000001), 0x7FFF},
      {UINT64_C(0x8000000000000000), 0xFFFF},
@@ -60,12 +62,11 @@ static const struct pattern samples[FORMATS][CLASSES] = {
      {UINT64_C(0x8000000000000000), 0x3FFF}},
 };
 
-/* All four ways in which an x87 pattern is unsupported, with either sign. */
+/* All three ways in which an x87 pattern is unsupported, with either sign. */
 static const struct pattern unsupported[] = {
-    {UINT64_C(0x8000000000000000), 0},      {UINT64_C(0x8000000000000001), 0x8000}, /* e = 0 with J = 1 */
-    {UINT64_C(0xFFFFFFFFFFFFFFFF), 0x8000}, {UINT64_C(0xC000000000000000), 0},
-    {UINT64_C(0x4000000000000000), 0x3FFF}, {UINT64_C(0x7FFFFFFFFFFFFFFF), 0x8001}, /* J = 0 */
+    {UINT64_C(0x4000000000000000), 0x3FFF}, {UINT64_C(0x7FFFFFFFFFFFFFFF), 0x8001}, /* e from 1 with J = 0 */
     {0, 0x7FFE},                            {1, 0xFFFE},
+    {0, 0x0001},                            {1, 0xBFFF},
     {0, 0x7FFF},                            {0, 0xFFFF}, /* an infinity with J = 0 */
     {UINT64_C(0x4000000000000000), 0xFFFF}, {1, 0x7FFF}, /* a NaN with J = 0 */
 };
@@ -121,13 +122,17 @@ static void steps_of(struct pattern x, struct pattern y, int number) {
         }
 }
 
+/* A normal number by the smallest denormal, or by a pseudo-denormal, is far: its step is partial. */
+static int is_far(int x, int y) {
+    return x == NORMAL && (y == DENORMAL || y == PSEUDO_DENORMAL);
+}
+
 static void steps(void) {
     int x, y;
     size_t i;
     for (x = UNSUPPORTED; x < CLASSES; x++)
         for (y = UNSUPPORTED; y < CLASSES; y++)
-            /* a normal number by the smallest denormal is far: its step is partial */
-            if (x != NORMAL || y != DENORMAL)
+            if (!is_far(x, y))
                 steps_of(samples[X87][x], samples[X87][y], number_of(x, y));
     for (i = 0; i < sizeof unsupported / sizeof *unsupported; i++) {
         struct reply dividend = call_rem(X87, unsupported[i], samples[X87][NORMAL], ZK_TRUNCATED);
@@ -298,6 +303,11 @@ static const struct block_case block_cases[] = {
     /* by infinity: x itself, with each byte of it in its place */
     {{UINT64_C(0x8877665544332211), 0x9234}, {TOP, 0x7FFF}, 32, 1, 0,
      {0x11, 0x22, 0x33, 0x44, 0x55, 0x66, 0x77, 0x88, 0x34, 0x92, 0, 0, 1, 0, 0, 0}},
+    /* ... and a pseudo-denormal: its ordinary pattern */
+    {{UINT64_C(0x8877665544332211), 0x8000}, {TOP, 0x7FFF}, 32, 1, 0,
+     {0x11, 0x22, 0x33, 0x44, 0x55, 0x66, 0x77, 0x88, 0x01, 0x80, 0, 0, 1, 0, 0, 0}},
+    /* one pseudo-denormal by another, a place smaller: that place is left */
+    {{TOP | 1, 0x8000}, {TOP, 0}, 32, 0, 9, {1, 0, 0, 0, 0, 0, 0, 0, 0x00, 0x80, 0, 1, 1, 0, 0, 0}},
 };
 
 static void blocks(void) {
@@ -325,6 +335,62 @@ static void spent_blocks(void) {
     check(same(none.value, x) && none.quotient == 0 && none.steps == 0, "a run with no budget gives the dividend", X87);
     check_number(zk_run80(x.bits, x.word, y.bits, y.word, 32, 0, 300, block, 16), ZK_SPENT, "a run with a budget of 300", X87);
     check_bytes(block + 12, steps_300, 4, "a run with a budget of 300", X87);
+}
+
+/* A remainder that one step finishes, in all three ways to ask for it. */
+static void check_finished(struct pattern x, struct pattern y, uint32_t kind, struct pattern value, uint32_t quotient, const char *what) {
+    static const char *const names[3] = {"remainder", "step", "run"};
+    const struct reply replies[3] = {call_rem(X87, x, y, kind), call_step(x, y, 32, kind, 16), call_run(x, y, 63, kind, 1, 16)};
+    uint32_t i;
+    for (i = 0; i < 3; i++) {
+        struct reply r = replies[i];
+        checks++;
+        if (r.number == 0 && same(r.value, value) && r.quotient == quotient && r.steps == (i > 0) && !r.touched)
+            continue;
+        if (differs())
+            printf("%s of %s: %s quotient %u number %u, expected %s quotient %u (filling %02X)\n", names[i], what, text(X87, r.value),
+                   (unsigned)r.quotient, r.number, text(X87, value), (unsigned)quotient, filling);
+    }
+}
+
+/* A pseudo-denormal, and the ordinary pattern of its value, which is what every result is written in. */
+static const struct pattern pseudo_denormals[][2] = {
+    {{TOP, 0}, {TOP, 1}},
+    {{TOP | 1, 0x8000}, {TOP | 1, 0x8001}},
+    {{UINT64_C(0xC000000000000000), 0}, {UINT64_C(0xC000000000000000), 1}},
+    {{UINT64_C(0xFFFFFFFFFFFFFFFF), 0x8000}, {UINT64_C(0xFFFFFFFFFFFFFFFF), 0x8001}},
+};
+
+static void pseudo_denormal_remainders(struct pattern x, struct pattern ordinary) {
+    struct pattern infinite = samples[X87][INFINITE], normal = samples[X87][NORMAL], minus_zero = samples[X87][ZERO], zero = {0, x.word};
+    uint32_t kind;
+    for (kind = 0; kind < 2; kind++) {
+        check_finished(x, infinite, kind, ordinary, 0, "a pseudo-denormal by infinity");
+        check_finished(x, normal, kind, ordinary, 0, "a pseudo-denormal by 1");
+        check_finished(x, x, kind, zero, 1, "a pseudo-denormal by itself");
+        check_finished(x, ordinary, kind, zero, 1, "a pseudo-denormal by its ordinary pattern");
+        check_finished(ordinary, x, kind, zero, 1, "an ordinary pattern by its pseudo-denormal");
+        check_finished(minus_zero, x, kind, minus_zero, 0, "a zero by a pseudo-denormal");
+    }
+}
+
+static void pseudo_denormal_values(struct pattern x, struct pattern ordinary) {
+    struct pattern significand = {x.bits, x.word | 0x3FFF};
+    struct reply none = call_run(x, x, 32, 0, 0, 16), scaled = call_scale(X87, x, 0), split = call_split(X87, x);
+    struct reply back = call_scale(X87, split.value, split.exponent);
+    check(none.number == ZK_SPENT && same(none.value, ordinary) && none.quotient == 0 && none.steps == 0 && !none.touched,
+          "a run of a pseudo-denormal with no budget", X87);
+    check(scaled.number == 0 && same(scaled.value, ordinary) && scaled.says == ZK_EXACT, "a pseudo-denormal scaled by 0", X87);
+    check(split.number == 0 && same(split.value, significand) && split.exponent == -16382, "a pseudo-denormal split", X87);
+    check(back.number == 0 && same(back.value, ordinary) && back.says == ZK_EXACT, "a pseudo-denormal split and scaled back", X87);
+}
+
+static void pseudo_denormal_operands(void) {
+    size_t i;
+    for (i = 0; i < sizeof pseudo_denormals / sizeof *pseudo_denormals; i++) {
+        pseudo_denormal_remainders(pseudo_denormals[i][0], pseudo_denormals[i][1]);
+        pseudo_denormal_values(pseudo_denormals[i][0], pseudo_denormals[i][1]);
+    }
 }
 
 /* 0 is truncated, and any other kind nearest: 7 by 2 is 1 with quotient 3, or -1 with 4. */
@@ -371,16 +437,13 @@ static void scaled_values(void) {
 }
 
 static void everything(void) {
-    remainders();
-    steps();
-    long_block();
-    scalings_and_splits();
-    folds();
-    long_lists();
-    blocks();
-    spent_blocks();
-    kinds();
-    scaled_values();
+    static void (*const parts[])(void) = {remainders, steps,        long_block,               scalings_and_splits, folds, long_lists,
+                                          blocks,     spent_blocks, pseudo_denormal_operands, kinds,               scaled_values};
+    size_t i;
+    for (i = 0; i < sizeof parts / sizeof *parts; i++) {
+        next_part();
+        parts[i]();
+    }
 }
 
 int main(void) {
