@@ -69,6 +69,17 @@ impl Layout {
         }
     }
 
+    /// A value of x87 at the lowest exponent in its other pattern: field 0, with the leading digit.
+    /// The other formats have none.
+    pub fn pseudo_denormal(&self, sign: u64, digits: u64) -> Option<u128> {
+        let pattern = || self.packed(sign, 0, digits | self.leading());
+        self.stores_leading().then(pattern)
+    }
+
+    fn stores_leading(&self) -> bool {
+        self.stored == self.precision
+    }
+
     /// The NaN that stands for the value of a refused call.
     pub fn house_nan(&self) -> u128 {
         self.packed(0, self.ones(), self.leading() | self.leading() >> 1)
@@ -77,9 +88,14 @@ impl Layout {
     /// The class of a pattern, and for a finite one the place of its leading one.
     pub fn sorted(&self, x: u128) -> (&'static str, u64) {
         let (field, digits) = ((x >> self.stored) as u64 & self.ones(), x as u64);
-        let is_led = digits >> 63 == 1;
+        let is_led = if self.stores_leading() {
+            digits >= self.leading()
+        } else {
+            field > 0
+        };
         match digits % self.leading() {
-            _ if self.stored == 64 && is_led != (field > 0) => ("unsupported", 0),
+            _ if field > 0 && !is_led => ("unsupported", 0),
+            _ if field == 0 && is_led => ("pseudo-denormal", self.precision - 1),
             0 if field == 0 => ("zero", 0),
             rest if field == 0 => ("denormal", 63 - u64::from(rest.leading_zeros())),
             _ if field < self.ones() => ("normal", field + self.precision - 2),

@@ -55,21 +55,23 @@ fn cases(layout: &Layout, most: u64, draw: &mut Draw) -> Vec<Case> {
 
 /// One significand, with its leading one at the lowest place that has room for all digits, where
 /// that is not higher at the largest denormal's, at that of the smallest normal number, of 1 and of
-/// the largest number, with both signs.
+/// the largest number, and in x87 as a pseudo-denormal, with both signs.
 fn scalings(layout: &Layout, significand: u64, places: u64) -> Vec<Case> {
     let lowest = 63 - u64::from(significand.trailing_zeros());
     let normal = layout.precision - 1;
     let one = layout.top() - layout.ones() / 2;
     let from = BTreeSet::from([lowest, lowest.max(normal - 1), normal, one, layout.top()]);
     let is_half = places <= 64 && (u128::from(significand) << (64 - places)) as u64 == LEADING;
-    let scaled = |place: u64| {
-        [0, 1].map(|sign| Case {
-            x: layout.placed(sign, place, significand),
-            power: 63 - place as i32 - places as i32,
-            is_half,
-        })
+    let scaled = |(place, x): (u64, u128)| Case {
+        x,
+        power: 63 - place as i32 - places as i32,
+        is_half,
     };
-    from.into_iter().flat_map(scaled).collect()
+    let placed = |place| [0, 1].map(|sign| (place, layout.placed(sign, place, significand)));
+    let pseudo = [0, 1].map(|sign| layout.pseudo_denormal(sign, significand));
+    let pseudo = pseudo.into_iter().flatten().map(|x| (normal, x));
+    let patterns = from.into_iter().flat_map(placed).chain(pseudo);
+    patterns.map(scaled).collect()
 }
 
 /// Quotients with left-overs. Where nothing can be left over, or nothing can go up: the first digit,

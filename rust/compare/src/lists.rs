@@ -37,7 +37,8 @@ pub fn compare<'a>(pair: Pair<'a>, text: &str) -> (Comparison<'a>, u64) {
 }
 
 /// The answers to the calls of a list, and what they come to: the last accepted value and number,
-/// the steps and the quotient bits added up. A list ends at its first 0, and says 1 then.
+/// the steps and the quotient bits added up. A list ends at its first 0, and says 1 then. Without
+/// an accepted call the value is the dividend as given.
 fn follow(
     who: &dyn Implementation,
     calls: &[&str],

@@ -48,7 +48,20 @@ impl Draw {
         }
     }
 
-    /// Any bits, the fields at their ends more often: of every class, x87's unsupported one too.
+    /// The pair, with a pseudo-denormal for its dividend, its divisor or both in three of 16 cases,
+    /// where the format has any.
+    pub fn with_pseudo_denormals(&mut self, layout: &Layout, (x, y): (u128, u128)) -> (u128, u128) {
+        let mut drawn = || layout.pseudo_denormal(self.below(2), self.digits());
+        let (other_x, other_y) = (drawn().unwrap_or(x), drawn().unwrap_or(y));
+        match self.below(16) {
+            0 => (other_x, y),
+            1 => (x, other_y),
+            2 => (other_x, other_y),
+            _ => (x, y),
+        }
+    }
+
+    /// Any bits, the fields at their ends more often: of every class, x87's own two among them.
     pub fn any(&mut self, layout: &Layout) -> u128 {
         let (ones, leading, digits) = (layout.ones(), layout.leading(), self.digits());
         let field = [0, 1, ones - 1, ones, self.below(ones + 1)][self.below(5) as usize];

@@ -9,6 +9,8 @@ use second::{Format, Kind};
 use std::collections::BTreeMap;
 
 const SEED: u64 = 1;
+/// Pseudo-denormals are drawn by themselves: the pairs of the other formats do not depend on them.
+const PSEUDO_SEED: u64 = 2;
 
 /// How often a thing was seen, by a name that begins with the format.
 pub type Covered = BTreeMap<String, u64>;
@@ -17,12 +19,12 @@ pub type Covered = BTreeMap<String, u64>;
 pub fn compare(pair: Pair, pairs: usize) -> (Comparison, Covered) {
     let mut comparison = Comparison::new(pair);
     let mut covered = Covered::new();
-    let mut draw = Draw(SEED);
+    let (mut draw, mut pseudo_draw) = (Draw(SEED), Draw(PSEUDO_SEED));
     for format in FORMATS.into_iter().cycle().take(pairs) {
         let layout = Layout::of(format);
         let mut note =
             |seen: String| *covered.entry(format!("{format:?} {seen}")).or_insert(0) += 1;
-        let (x, y) = draw.pair(&layout);
+        let (x, y) = pseudo_draw.with_pseudo_denormals(&layout, draw.pair(&layout));
         let ((x_class, x_place), (y_class, y_place)) = (layout.sorted(x), layout.sorted(y));
         note(format!("{x_class} by {y_class}"));
         if [x_class, y_class]
@@ -37,9 +39,21 @@ pub fn compare(pair: Pair, pairs: usize) -> (Comparison, Covered) {
             if matches!(call, Call::Scale(..)) && told.number == 0 {
                 note(format!("scaling says {}", told.says));
             }
+            if let ("pseudo-denormal", Some(how)) = (x_class, returned(&call, told.number)) {
+                note(format!("pseudo-denormal {how}"));
+            }
         }
     }
     (comparison, covered)
+}
+
+/// How an accepted call comes to return its dividend, whatever else it is given.
+fn returned(call: &Call, number: u8) -> Option<&'static str> {
+    match (call, number) {
+        (Call::Scale(_, _, 0), 0) => Some("scaled by 0"),
+        (Call::Run(_, _, 0, ..), 7) => Some("run, budget 0"),
+        _ => None,
+    }
 }
 
 fn band(top: u64, x: u64, y: u64) -> String {

@@ -10,20 +10,18 @@ use zukemoriha::binary64::HOUSE_NAN;
 use zukemoriha::Answer::{Finished, Partial};
 use zukemoriha::Refusal::{BadSize, ZeroDivisor};
 
-/// The library, with a size that is refused told as a NaN. The sums of a list do not show it.
-struct Misnumbered;
+/// The library, with other answers to calls.
+struct Answering(Answerer);
 
-impl Implementation for Misnumbered {
+type Answerer = fn(&Call) -> Answer;
+
+impl Implementation for Answering {
     fn name(&self) -> &'static str {
-        "misnumbered"
+        "answering"
     }
 
     fn answer(&self, call: &Call) -> Answer {
-        let mut answer = Library.answer(call);
-        if answer.number == 6 {
-            answer.number = 3;
-        }
-        answer
+        (self.0)(call)
     }
 
     fn fold(&self, kind: Kind, dividends: &[u64], divisor: u64) -> Result<Folded, u8> {
@@ -339,11 +337,97 @@ fn a_wrong_cell_is_noticed() {
     }
 }
 
+/// A size that is refused, told as a NaN. The sums of a list do not show it.
 #[test]
 fn a_wrong_refusal_is_noticed() {
+    let misnumbered = Answering(|call| match Library.answer(call) {
+        answer if answer.number == 6 => Answer {
+            number: 3,
+            ..answer
+        },
+        answer => answer,
+    });
     for path in [FILES[1], FILES[2], FILES[5]] {
-        let different = in_file([&Misnumbered, &Second], path, &read(path));
+        let different = in_file([&misnumbered, &Second], path, &read(path));
         assert!(different > 0, "{path}");
+    }
+}
+
+fn is_pseudo_denormal(x: u128) -> bool {
+    x >> 63 & 0xFFFF == 1
+}
+
+/// The library's answer with some bits of every pseudo-denormal turned before it is asked.
+fn turned(call: &Call, bits: u128) -> Answer {
+    let read = |x| if is_pseudo_denormal(x) { x ^ bits } else { x };
+    Library.answer(&match *call {
+        Call::Remainder(Format::X87, kind, x, y) => {
+            Call::Remainder(Format::X87, kind, read(x), read(y))
+        }
+        Call::Step(kind, size, x, y, length) => Call::Step(kind, size, read(x), read(y), length),
+        Call::Run(kind, size, budget, x, y, length) => {
+            Call::Run(kind, size, budget, read(x), read(y), length)
+        }
+        Call::Scale(Format::X87, x, power) => Call::Scale(Format::X87, read(x), power),
+        Call::Split(Format::X87, x) => Call::Split(Format::X87, read(x)),
+        other => other,
+    })
+}
+
+/// The library's answer, with a pseudo-denormal that it returns written as it was given.
+fn as_given(call: &Call, x: u128) -> Answer {
+    let mut answer = Library.answer(call);
+    if is_pseudo_denormal(x) && answer.value == x | 1 << 64 {
+        answer.value = x;
+    }
+    answer
+}
+
+/// Libraries that take pseudo-denormals in another way, and the files of x87 that show it.
+#[test]
+fn another_way_with_pseudo_denormals_is_noticed() {
+    const INFINITY: u128 = 0x7FFF << 64 | 1 << 63;
+    let every = ["rem", "step", "run", "list", "scale", "split"];
+    let ways: [(&str, Answerer, &[&str]); 5] = [
+        // field 1 without a leading bit
+        ("refused", |call| turned(call, 3 << 63), &every),
+        ("no leading bit", |call| turned(call, 1 << 63), &every),
+        (
+            "as given by infinity",
+            |call| match *call {
+                Call::Remainder(_, _, x, INFINITY)
+                | Call::Step(_, _, x, INFINITY, _)
+                | Call::Run(_, _, 1.., x, INFINITY, _) => as_given(call, x),
+                _ => Library.answer(call),
+            },
+            &every[..3],
+        ),
+        (
+            "as given with budget 0",
+            |call| match *call {
+                Call::Run(_, _, 0, x, ..) => as_given(call, x),
+                _ => Library.answer(call),
+            },
+            &every[2..4],
+        ),
+        (
+            "as given scaled by 0",
+            |call| match *call {
+                Call::Scale(Format::X87, x, 0) => as_given(call, x),
+                _ => Library.answer(call),
+            },
+            &every[4..5],
+        ),
+    ];
+    for (what, answer, operations) in ways {
+        let otherwise = Answering(answer);
+        let pair: Pair = [&otherwise, &Second];
+        for operation in operations {
+            let path = format!("computed/{operation}-x87.txt");
+            assert!(in_file(pair, &path, &read(&path)) > 0, "{what}, {path}");
+        }
+        let different = sequence::compare(pair, 40_000).0.different;
+        assert!(different > 0, "{what}, sequence");
     }
 }
 

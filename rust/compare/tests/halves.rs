@@ -22,10 +22,10 @@ const COVERED: [(&str, u64); 16] = [
     ("Binary64 says 0", 6_668),
     ("Binary64 says 1", 14_444),
     ("Binary64 says 2", 17_392),
-    ("X87 at a half", 7_388),
-    ("X87 says 0", 7_482),
-    ("X87 says 1", 17_702),
-    ("X87 says 2", 20_646),
+    ("X87 at a half", 8_880),
+    ("X87 says 0", 8_984),
+    ("X87 says 1", 22_768),
+    ("X87 says 2", 26_498),
 ];
 
 #[test]
@@ -33,7 +33,7 @@ fn every_number_of_places_around_each_half() {
     let (comparison, covered) = halves::compare(PAIR, MOST_PLACES);
     let (answers, different) = (comparison.answers, comparison.different);
     println!("{answers} scalings, {different} different: {covered:?}");
-    assert_eq!((answers, different), (114_590, 0));
+    assert_eq!((answers, different), (127_010, 0));
     let covered: Vec<_> = covered
         .iter()
         .map(|(cell, &count)| (cell.as_str(), count))

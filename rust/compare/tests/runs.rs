@@ -18,21 +18,34 @@ fn whole(n: u64) -> u128 {
     u128::from(16383 + 63 - zeros) << 64 | u128::from(n << zeros)
 }
 
+/// The same quotient at the lowest exponent, its divisor a pseudo-denormal.
+fn lowered(x: u128, y: u128) -> (u128, u128) {
+    let word = y >> 64;
+    (x - ((word - 1) << 64), y - (word << 64))
+}
+
+/// Powers of two by small odd numbers, each also lowered.
+fn pairs() -> impl Iterator<Item = (u128, u128)> {
+    let exponents = 64..200;
+    let pairs = exponents.flat_map(|exponent| {
+        let divisors = (3..64).step_by(2);
+        divisors.map(move |divisor| (power(exponent), whole(divisor)))
+    });
+    pairs.flat_map(|(x, y)| [(x, y), lowered(x, y)])
+}
+
 /// A part has low bits where D - n is 1 or 2, so that runs that are spent there tell some. Returns
 /// also how many did after two or more steps.
 fn spent_runs(pair: Pair) -> (Comparison, u32) {
     let mut comparison = Comparison::new(pair);
     let mut with_bits = 0;
-    for exponent in 64..200 {
-        for divisor in (3..64).step_by(2) {
-            for size in 61..=63 {
-                for budget in 1..=3 {
-                    let (x, y) = (power(exponent), whole(divisor));
-                    let call = Call::Run(Kind::Truncated, size, budget, x, y, LENGTH);
-                    let told = comparison.call(&call, None);
-                    let spent = told.number == SPENT && told.steps == budget;
-                    with_bits += u32::from(spent && budget > 1 && told.quotient != 0);
-                }
+    for (x, y) in pairs() {
+        for size in 61..=63 {
+            for budget in 1..=3 {
+                let call = Call::Run(Kind::Truncated, size, budget, x, y, LENGTH);
+                let told = comparison.call(&call, None);
+                let spent = told.number == SPENT && told.steps == budget;
+                with_bits += u32::from(spent && budget > 1 && told.quotient != 0);
             }
         }
     }
@@ -46,23 +59,29 @@ fn spent_runs_tell_their_bits() {
         "{} runs, {with_bits} spent with bits after two or more steps",
         comparison.answers
     );
-    assert_eq!((comparison.answers, comparison.different), (37_944, 0));
+    assert_eq!((comparison.answers, comparison.different), (75_888, 0));
     assert!(with_bits > 0);
 }
 
-/// The largest gaps, with as many steps as they allow: every budget around the last step, and any
-/// 32 bits. Returns also how many took other steps than they should.
+/// The largest gaps, the last with a pseudo-denormal for a divisor, with as many steps as they
+/// allow: every budget around the last step, and any 32 bits. Returns also how many took other
+/// steps than they should.
 fn longest_runs(pair: Pair) -> (Comparison, u32) {
     let mut comparison = Comparison::new(pair);
     let mut astray = 0;
     let largest = 0x7FFE << 64 | u128::from(u64::MAX);
     let other = 0x7FFE_8001_8001_8001_8001;
-    for (x, y, steps) in [(largest, 25, 1025), (other, 0xFFFF, 1025)] {
+    for (x, y, steps) in [
+        (largest, 25, 1025),
+        (other, 0xFFFF, 1025),
+        (largest, 25 << 59, 1023),
+    ] {
         for kind in [Kind::Truncated, Kind::Nearest] {
             for budget in [
                 256,
                 512,
                 1000,
+                1022,
                 1023,
                 1024,
                 1025,
@@ -88,7 +107,7 @@ fn the_longest_runs_take_their_steps() {
     let (comparison, astray) = longest_runs(PAIR);
     assert_eq!(
         (comparison.answers, comparison.different, astray),
-        (40, 0, 0)
+        (66, 0, 0)
     );
 }
 

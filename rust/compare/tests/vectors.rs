@@ -6,17 +6,17 @@ const FILES: [(&str, u64); 14] = [
     ("rem-binary16.txt", 1539),
     ("rem-binary32.txt", 1539),
     ("rem-binary64.txt", 1539),
-    ("rem-x87.txt", 1539),
-    ("step-x87.txt", 1539),
-    ("run-x87.txt", 616),
+    ("rem-x87.txt", 2865),
+    ("step-x87.txt", 2883),
+    ("run-x87.txt", 1175),
     ("scale-binary16.txt", 1539),
     ("scale-binary32.txt", 1539),
     ("scale-binary64.txt", 1539),
-    ("scale-x87.txt", 1539),
+    ("scale-x87.txt", 2844),
     ("split-binary16.txt", 2000),
     ("split-binary32.txt", 2000),
     ("split-binary64.txt", 2000),
-    ("split-x87.txt", 2000),
+    ("split-x87.txt", 2139),
 ];
 
 #[test]

@@ -112,8 +112,7 @@ fn gap(x: Operand, y: Operand) -> i32 {
 /// the sign of `x`.
 pub(crate) fn whole_remainder(format: Format, kind: Kind, x: Operand, y: Operand) -> (u128, u32) {
     if y.class == Class::Infinite {
-        let Magnitude { significand, place } = x.magnitude;
-        return (format.write(x.negative, significand, place.into()), 0);
+        return (format.ordinary(x), 0);
     }
     let mut division = Division::of(x.magnitude, y.magnitude);
     let up = kind == Kind::Nearest && division.rounds_up();

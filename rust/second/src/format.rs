@@ -51,7 +51,7 @@ pub(crate) enum Class {
     Finite,
     Infinite,
     Nan,
-    /// An x87 pattern whose leading bit does not fit its exponent field.
+    /// An x87 pattern with an exponent field other than 0 and no leading digit.
     Unsupported,
 }
 
@@ -107,8 +107,7 @@ impl Format {
         let stored = pattern & layout.stored_mask();
         let implied = layout.stored < layout.precision && field != 0;
         let significand = stored | if implied { layout.leading() } else { 0 };
-        let has_leading = significand & layout.leading() != 0;
-        let class = if has_leading != (field != 0) {
+        let class = if field != 0 && significand < layout.leading() {
             Class::Unsupported
         } else if field == layout.top_field() && significand == layout.leading() {
             Class::Infinite
@@ -119,7 +118,8 @@ impl Format {
         } else {
             Class::Finite
         };
-        // Field 0 and field 1 count in the same place.
+        // Field 0 and field 1 count in the same place, so that a pseudo-denormal of x87, field 0
+        // with the leading digit, is a finite value like any other.
         let place = layout.smallest_place + field.max(1) as i32 - 1;
         Operand {
             class,
@@ -128,8 +128,8 @@ impl Format {
         }
     }
 
-    /// Puts a pattern together from a sign and a magnitude that needs no rounding. A magnitude
-    /// beyond the largest finite one becomes infinity.
+    /// Puts the ordinary pattern together, from a sign and a magnitude that needs no rounding:
+    /// field 0 has no leading digit. A magnitude beyond the largest finite one becomes infinity.
     pub(crate) fn write(self, negative: bool, significand: u128, place: i64) -> u128 {
         let layout = self.layout();
         let smallest_place = i64::from(layout.smallest_place);
@@ -146,6 +146,12 @@ impl Format {
             return self.infinity(negative);
         }
         self.pattern(negative, field, significand)
+    }
+
+    /// The ordinary pattern of a zero or a finite value.
+    pub(crate) fn ordinary(self, x: Operand) -> u128 {
+        let Magnitude { significand, place } = x.magnitude;
+        self.write(x.negative, significand, place.into())
     }
 
     /// The infinity of a sign.

@@ -35,7 +35,7 @@ pub enum Kind {
 pub struct Answer {
     /// 0 finished, 1 partial, 7 budget spent; any other number is a refusal.
     pub number: u8,
-    /// The pattern of the result.
+    /// The pattern of the result: the ordinary one, where x87 has two for a value.
     pub value: u128,
     /// The quotient's magnitude modulo 8, or the part of it that was taken.
     pub quotient: u32,
@@ -90,13 +90,13 @@ pub fn step(kind: Kind, size: u32, x: u128, y: u128) -> Answer {
 /// Steps of one `size` on x87 patterns, up to the first that finishes or until `budget` is spent.
 pub fn run(kind: Kind, size: u32, budget: u32, x: u128, y: u128) -> Answer {
     let format = Format::X87;
-    let divisor = format.read(y);
-    if let Some(number) = first_refusal(Task::Divide, Some(size), format.read(x), Some(divisor)) {
+    let (x, y) = (format.read(x), format.read(y));
+    if let Some(number) = first_refusal(Task::Divide, Some(size), x, Some(y)) {
         return Answer::refused(format, number);
     }
-    let mut answer = Answer::new(SPENT, x);
+    let mut answer = Answer::new(SPENT, format.ordinary(x));
     while answer.number == SPENT && answer.steps < budget {
-        let step = division::step(format, kind, size, format.read(answer.value), divisor);
+        let step = division::step(format, kind, size, format.read(answer.value), y);
         answer.value = step.value;
         answer.quotient = (answer.quotient + step.quotient) % QUOTIENT_MODULUS;
         answer.steps += 1;

@@ -1,4 +1,5 @@
-//! Twelve readings worked out by hand, and the refusals with the order they come in.
+//! Twelve readings worked out by hand, the refusals with the order they come in, and
+//! pseudo-denormals.
 
 use second::{fold, remainder, run, scale, split, step, Answer, Format, Kind};
 use Format::{Binary16, Binary32, Binary64, X87};
@@ -160,7 +161,114 @@ fn every_format_has_its_refusals() {
         assert_eq!(split(format, 0), refused(format, 8));
     }
     assert_eq!(split(X87, INFINITY), refused(X87, 4));
-    assert_eq!(split(X87, 1 << 63), refused(X87, 2));
+    // A leading bit of 0 with any exponent field but 0.
+    for word in [1, 0x3FFF, 0x7FFE, 0x7FFF, 0x8001, 0xFFFF] {
+        for significand in [0, 1, (1 << 63) - 1] {
+            assert_eq!(split(X87, word << 64 | significand), refused(X87, 2));
+        }
+    }
+}
+
+/// Pseudo-denormals, and the ordinary patterns of the same values.
+fn pseudo_denormals() -> Vec<(u128, u128)> {
+    let significands = [1 << 63, 1 << 63 | 5, 3 << 62, u64::MAX.into()];
+    let signed = significands.map(|significand| [significand, NEGATIVE | significand]);
+    let pairs = signed.into_iter().flatten();
+    pairs.map(|pseudo| (pseudo, 1 << 64 | pseudo)).collect()
+}
+
+#[test]
+fn a_pseudo_denormal_is_returned_in_its_ordinary_pattern() {
+    for (x, ordinary) in pseudo_denormals() {
+        for kind in BOTH {
+            for y in [INFINITY, NEGATIVE | INFINITY] {
+                assert_eq!(remainder(X87, kind, x, y), answer(0, ordinary, 0, 0));
+                assert_eq!(step(kind, 63, x, y), answer(0, ordinary, 0, 1));
+                assert_eq!(run(kind, 32, 9, x, y), answer(0, ordinary, 0, 1));
+            }
+            for y in [ONE, SMALLEST, x, ordinary, INFINITY] {
+                assert_eq!(run(kind, 32, 0, x, y), answer(7, ordinary, 0, 0));
+            }
+        }
+        assert_eq!(scale(X87, x, 0), scaled(ordinary, 0));
+        let parts = split(X87, x);
+        assert_eq!((parts.number, parts.value), (0, x | 0x3FFF << 64));
+        assert_eq!(parts.exponent, -16382);
+        assert_eq!(scale(X87, parts.value, parts.exponent), scaled(ordinary, 0));
+    }
+}
+
+#[test]
+fn a_pseudo_denormal_counts_its_leading_bit() {
+    // 2^63 + 5 by 4.
+    let x = 1 << 63 | 5;
+    assert_eq!(remainder(X87, Truncated, x, 4), answer(0, 1, 1, 0));
+    // 3 * 2^62 and 2^63 + 5, by each other.
+    let y = 3 << 62;
+    let left = (1 << 62) - 5;
+    assert_eq!(remainder(X87, Nearest, y, x), answer(0, left, 1, 0));
+    assert_eq!(
+        remainder(X87, Nearest, x, y),
+        answer(0, NEGATIVE | left, 1, 0)
+    );
+    // A half goes down to the even one, and up to it.
+    assert_eq!(scale(X87, x, -1), scaled(1 << 62 | 2, 2));
+    assert_eq!(scale(X87, 1 << 63 | 7, -1), scaled(1 << 62 | 4, 1));
+}
+
+#[test]
+fn steps_by_a_pseudo_denormal() {
+    // Reading 7, 2^65 by 3, with the smallest denormal times 2^62 for a unit.
+    let (x, y) = (65 << 64 | 1 << 63, 3 << 62);
+    let (two, minus_one) = (1 << 64 | 1 << 63, NEGATIVE | 1 << 62);
+    for kind in BOTH {
+        assert_eq!(step(kind, 63, x, y), answer(1, two, 2, 1));
+    }
+    assert_eq!(run(Truncated, 63, 9, x, y), answer(0, two, 2, 2));
+    assert_eq!(run(Nearest, 63, 9, x, y), answer(0, minus_one, 3, 2));
+}
+
+/// Whatever stands on the other side, the two patterns of a value have the same answers.
+#[test]
+fn a_pseudo_denormal_is_as_good_as_its_ordinary_pattern() {
+    let largest_denormal = (1 << 63) - 1;
+    let others = [
+        ZERO,
+        SMALLEST,
+        25,
+        largest_denormal,
+        THREE,
+        65 << 64 | 3 << 62,
+        NEGATIVE | LARGEST,
+        INFINITY,
+        NAN,
+        UNSUPPORTED,
+    ];
+    for (pseudo, ordinary) in pseudo_denormals() {
+        for kind in BOTH {
+            let alike = |x, y, plain_x, plain_y| {
+                let told = remainder(X87, kind, x, y);
+                assert_eq!(told, remainder(X87, kind, plain_x, plain_y));
+                let told = step(kind, 33, x, y);
+                assert_eq!(told, step(kind, 33, plain_x, plain_y));
+                for budget in [0, 1, u32::MAX] {
+                    let told = run(kind, 63, budget, x, y);
+                    assert_eq!(told, run(kind, 63, budget, plain_x, plain_y));
+                }
+            };
+            for other in others {
+                alike(pseudo, other, ordinary, other);
+                alike(other, pseudo, other, ordinary);
+            }
+            for (divisor, plain_divisor) in pseudo_denormals() {
+                alike(pseudo, divisor, ordinary, plain_divisor);
+            }
+        }
+        for power in [i32::MIN, -64, -63, -1, 0, 1, 32_765, 32_766, i32::MAX] {
+            assert_eq!(scale(X87, pseudo, power), scale(X87, ordinary, power));
+        }
+        assert_eq!(split(X87, pseudo), split(X87, ordinary));
+    }
 }
 
 #[test]

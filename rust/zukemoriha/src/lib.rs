@@ -41,8 +41,9 @@
 //!
 //! The remainder of `x` by `y` is `x - Q * y`, where the magnitude of `Q` is that of `x / y`, cut
 //! or rounded to a whole number as the [`Kind`] says, and its sign is that of `x / y`. A zero
-//! result has the sign of `x`. By an infinite `y` a finite `x` is returned as it is, with
-//! quotient bits 0. Quotient bits are the quotient's magnitude modulo 8.
+//! result has the sign of `x`. By an infinite `y` a finite `x` is returned, an [`X87`] in its
+//! [ordinary pattern](X87#the-ordinary-pattern), with quotient bits 0. Quotient bits are the
+//! quotient's magnitude modulo 8.
 //!
 //! # The numbers
 //!

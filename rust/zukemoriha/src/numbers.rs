@@ -36,7 +36,7 @@ pub enum Answer {
     /// Steps only: the step was partial, and another one is needed.
     Partial = 1,
     /// Runs only: the budget is spent before a step has finished. The value is the one reached,
-    /// with budget 0 the dividend.
+    /// with budget 0 the dividend in its [ordinary pattern](crate::X87#the-ordinary-pattern).
     Spent = 7,
 }
 
@@ -74,7 +74,7 @@ impl Answer {
 #[derive(Clone, Copy, Debug, PartialEq, Eq, Hash)]
 #[non_exhaustive]
 pub enum Refusal {
-    /// An x87 operand is no number of the format: see [`X87`](crate::X87).
+    /// An x87 operand has a nonzero exponent and no leading bit: see [`X87`](crate::X87).
     Unsupported = 2,
     /// An operand is NaN.
     Nan = 3,
@@ -142,7 +142,9 @@ impl fmt::Display for Refusal {
             Refusal::StemVersion => "the version of the stem file is not 1",
             Refusal::StemKind => "the gauge is neither a turn nor a roller",
             Refusal::StemCount => "the stem file declares more than 4000 points",
-            Refusal::StemLength => "the stem file has no whole header, or not the length that its count asks for",
+            Refusal::StemLength => {
+                "the stem file has no whole header, or not the length that its count asks for"
+            }
             Refusal::StemGauge => "the period or the origin is not one that a stem file may have",
         })
     }

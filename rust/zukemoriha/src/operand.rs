@@ -3,17 +3,18 @@
 /// The pattern of an 80-bit x87 number: a significand whose leading bit is explicit, and a word
 /// of sign and exponent.
 ///
-/// With `e` the lower 15 bits of the word and `J` the top bit of the significand, the supported
-/// patterns are
+/// With `e` the lower 15 bits of the word and `J` the top bit of the significand, the patterns are
 ///
 /// | `e` | `J` | |
 /// |---|---|---|
 /// | 0 | 0 | zeros and denormals: significand × 2^-16445 |
+/// | 0 | 1 | pseudo-denormals: significand × 2^-16445, the same as with `e` = 1 |
 /// | 1 to 32766 | 1 | normal numbers: significand × 2^(e - 16446) |
 /// | 32767 | 1 | infinities (the other 63 bits are 0) and NaNs |
+/// | 1 to 32767 | 0 | unsupported |
 ///
-/// All others are unsupported, `e` = 0 with `J` = 1 among them. Functions take them as they take
-/// every pattern, and refuse them with [`Refusal::Unsupported`](crate::Refusal::Unsupported).
+/// Functions take every pattern, and refuse the unsupported ones with
+/// [`Refusal::Unsupported`](crate::Refusal::Unsupported).
 ///
 /// Equality is that of the bits: the two zeros are different patterns.
 ///
@@ -22,6 +23,24 @@
 ///
 /// let three = X87 { significand: 3 << 62, word: 0x4000 };
 /// assert_eq!(three.to_bytes(), [0, 0, 0, 0, 0, 0, 0, 0xC0, 0x00, 0x40]);
+/// ```
+///
+/// # The ordinary pattern
+///
+/// A pseudo-denormal is a number like any other, but no result is written as one. Of the two
+/// patterns results have the ordinary one, with `e` = 1, also where an operand is returned:
+///
+/// ```
+/// use zukemoriha::{x87, Kind, X87};
+///
+/// let pseudo_denormal = X87 { significand: 3 << 62, word: 0 };
+/// let ordinary = X87 { significand: 3 << 62, word: 1 };
+/// let infinity = X87 { significand: 1 << 63, word: 0x7FFF };
+///
+/// let left = x87::remainder(pseudo_denormal, infinity, Kind::Truncated)?;
+/// assert_eq!(left.value, ordinary);
+/// assert_eq!(x87::scale(pseudo_denormal, 0)?.value, ordinary);
+/// # Ok::<(), zukemoriha::Refusal>(())
 /// ```
 #[derive(Clone, Copy, Debug, PartialEq, Eq, Hash)]
 pub struct X87 {

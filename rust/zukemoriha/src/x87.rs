@@ -1,5 +1,6 @@
-//! The 80-bit format of x87: an operand is an [`X87`]. Beside the remainder in one call there are
-//! the processor's steps.
+//! The 80-bit format of x87: an operand is an [`X87`], and every result has the
+//! [ordinary pattern](X87#the-ordinary-pattern) of its value. Beside the remainder in one call
+//! there are the processor's steps.
 //!
 //! # Steps
 //!
@@ -27,8 +28,8 @@ pub const SIZES: RangeInclusive<u32> = 32..=63;
 
 /// The remainder of `x` by `y`, exact, with three bits of the quotient.
 ///
-/// A zero result has the sign of `x`. By an infinite `y` a finite `x` is returned as it is, with
-/// quotient bits 0.
+/// A zero result has the sign of `x`. By an infinite `y` a finite `x` is returned, in its
+/// [ordinary pattern](X87#the-ordinary-pattern), with quotient bits 0.
 ///
 /// # Errors
 ///
@@ -115,7 +116,8 @@ pub fn scale(x: X87, power: i32) -> Result<Scaled<X87>, Refusal> {
 /// Splits `x` into a significand, its magnitude from 1 to below 2 and its sign that of `x`, and
 /// the exponent of its leading one.
 ///
-/// Scaling the significand by the exponent gives the pattern `x` back, exact.
+/// Scaling the significand by the exponent gives `x` back, exact, in its
+/// [ordinary pattern](X87#the-ordinary-pattern).
 ///
 /// # Errors
 ///

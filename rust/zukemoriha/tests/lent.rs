@@ -14,7 +14,7 @@ const TWO: X87 = number(1 << 63, 0x4000);
 const ZERO: X87 = number(0, 0);
 const INFINITY: X87 = number(1 << 63, 0x7FFF);
 const NAN: X87 = number(3 << 62, 0x7FFF);
-const UNSUPPORTED: X87 = number(1 << 63, 0);
+const UNSUPPORTED: X87 = number(1, 1);
 
 const fn number(significand: u64, word: u16) -> X87 {
     X87 { significand, word }

@@ -133,6 +133,31 @@ fn stored(x: f64) -> [u8; 10] {
 }
 
 #[test]
+fn a_pseudo_denormal_is_returned_in_its_ordinary_pattern() {
+    let infinity = number(1 << 63, 0x7FFF);
+    for significand in [1 << 63, 3 << 62, u64::MAX] {
+        for sign in [0, 0x8000] {
+            let (x, ordinary) = (number(significand, sign), number(significand, sign | 1));
+            for kind in KINDS {
+                let left = x87::remainder(x, infinity, kind).unwrap();
+                assert_eq!((left.value, left.quotient), (ordinary, 0));
+                assert_eq!(x87::step(x, infinity, 63, kind).unwrap().value, ordinary);
+                let run = x87::run(x, x, 63, kind, 0).unwrap();
+                assert_eq!((run.answer, run.value), (Answer::Spent, ordinary));
+            }
+            assert_eq!(x87::scale(x, 0).unwrap().value, ordinary);
+            let split = x87::split(x).unwrap();
+            assert_eq!(
+                (split.significand.significand, split.exponent),
+                (significand, -16382)
+            );
+            let back = x87::scale(split.significand, split.exponent).unwrap();
+            assert_eq!((back.value, back.rounding), (ordinary, Rounding::Exact));
+        }
+    }
+}
+
+#[test]
 fn a_block_is_read_if_its_number_is_an_answer() {
     let block = |answer| Block {
         value: number(0x0807_0605_0403_0201, 0x0A09),
