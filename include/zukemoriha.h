@@ -24,7 +24,10 @@
  *
  * The remainder of x by y is x - Q*y with Q the quotient |x|/|y|, cut (truncated) or rounded to nearest, a half to the even one (nearest),
  * with the sign of x/y. It is exact. A zero result has the sign of x. Quotient bits are those of |Q| modulo 8. By an infinite y a finite x
- * is returned as it is, with quotient bits 0.
+ * is returned, with quotient bits 0.
+ *
+ * Where a function returns x, by an infinite y, scaling by 0 or a run with budget 0, it returns the bits of x, with one exception: an x87
+ * pseudo-denormal, which is a number like any other, comes back in its ordinary pattern (see zk_rem80). No result is a pseudo-denormal.
  */
 #ifndef ZUKEMORIHA_H
 #define ZUKEMORIHA_H
@@ -44,7 +47,7 @@ extern "C" {
 enum zk_number {
     ZK_FINISHED = 0,      /* the result is there */
     ZK_PARTIAL = 1,       /* step only: the step was partial, its value is there, another step is needed */
-    ZK_UNSUPPORTED = 2,   /* an x87 operand is no number of the format (see zk_rem80) */
+    ZK_UNSUPPORTED = 2,   /* an x87 operand has an exponent other than 0 and no leading bit (see zk_rem80) */
     ZK_NAN = 3,           /* an operand is NaN */
     ZK_INFINITE = 4,      /* the dividend is infinite; or an infinity was to be split */
     ZK_ZERO_DIVISOR = 5,  /* the divisor is zero */
@@ -99,9 +102,15 @@ uint8_t zk_rem32(uint32_t x, uint32_t y, uint32_t kind, uint32_t *value, uint32_
 uint8_t zk_rem64(uint64_t x, uint64_t y, uint32_t kind, uint64_t *value, uint32_t *quotient);
 
 /*
- * The same for x87. With e the lower 15 bits of the word and J the top bit of the significand, the patterns that are supported are
- * e = 0 with J = 0 (zeros and denormals), e = 1 to 32766 with J = 1 (normal numbers) and e = 32767 with J = 1 (infinities and NaNs).
- * All others are refused with 2, e = 0 with J = 1 among them.
+ * The same for x87. With e the lower 15 bits of the word and J the top bit of the significand s, a pattern is
+ *
+ *   e = 0          J = 0    a zero or a denormal, s * 2^-16445
+ *   e = 0          J = 1    a pseudo-denormal, s * 2^-16445 too: the number that e = 1 is with the same s
+ *   e = 1 to 32766 J = 1    a normal number, s * 2^(e-16446)
+ *   e = 32767      J = 1    an infinity if the other 63 bits are 0, else a NaN
+ *   e = 1 to 32767 J = 0    unsupported: refused with 2
+ *
+ * The ordinary pattern of a pseudo-denormal has e = 1. Results are always written so, here and in all functions below.
  */
 uint8_t zk_rem80(uint64_t x, uint16_t xw, uint64_t y, uint16_t yw, uint32_t kind, uint64_t *value, uint16_t *valuew, uint32_t *quotient);
 
@@ -116,7 +125,8 @@ uint8_t zk_step80(uint64_t x, uint16_t xw, uint64_t y, uint16_t yw, uint32_t siz
 
 /*
  * Steps of one size until one finishes (0) or the budget is spent (7). Quotient bits are the sum of all parts taken, modulo 8, and steps
- * is how many steps were taken. A run that ended with 7 may be continued from its value: steps and quotient bits are to be added.
+ * is how many steps were taken. A run that ended with 7 may be continued from its value: steps and quotient bits are to be added. With
+ * budget 0 the value is x.
  * Refuses with 9, 6, 2, 3, 4 or 5.
  */
 uint8_t zk_run80(uint64_t x, uint16_t xw, uint64_t y, uint16_t yw, uint32_t size, uint32_t kind, uint32_t budget, uint8_t *block,
@@ -124,7 +134,8 @@ uint8_t zk_run80(uint64_t x, uint16_t xw, uint64_t y, uint16_t yw, uint32_t size
 
 /*
  * x times 2^power, rounded once, ties to even. *value gets the result and *says an enum zk_says. An exponent above the format's largest
- * gives infinity; only bits below the smallest denormal are rounded away. Zeros and infinities return themselves, exact.
+ * gives infinity; only bits below the smallest denormal are rounded away. Zeros and infinities return themselves, exact, for every power,
+ * and by 0 every number does.
  * Returns 0, or refuses with 2 (x87 only) or 3.
  */
 uint8_t zk_scale16(uint16_t x, int32_t power, uint16_t *value, uint8_t *says);
@@ -134,7 +145,7 @@ uint8_t zk_scale80(uint64_t x, uint16_t xw, int32_t power, uint64_t *value, uint
 
 /*
  * Splits a nonzero finite x into a significand with magnitude from 1 to below 2 and x's sign, and the exponent of its leading one.
- * Scaling the one by the other gives x's own pattern, exact. Returns 0, or refuses with 2 (x87 only), 3, 4 or 8.
+ * Scaling the one by the other returns x, exact. Returns 0, or refuses with 2 (x87 only), 3, 4 or 8.
  */
 uint8_t zk_split16(uint16_t x, uint16_t *significand, int32_t *exponent);
 uint8_t zk_split32(uint32_t x, uint32_t *significand, int32_t *exponent);
