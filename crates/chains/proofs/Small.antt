@@ -5,7 +5,7 @@ use mathlib.Core.Bool.{Bool, true, false, not, cond}
 use Prim.Native.Nat.{ℕ, _<_}
 use native.Mathlib.Omega.{arith}
 use lib.Dec.{lit<}
-use Rattle.definitions.specs.Class.{Value, Class, unsupported, nan, infinite, finite}
+use Rattle.definitions.specs.Class.{Class, unsupported, nan, infinite, finite}
 use Rattle.definitions.specs.Format.{Representable, classOf, patternOf, patterns, ordinary, x87}
 use Rattle.definitions.specs.Numbers.{first, accepted, isZero}
 use Rattle.definitions.specs.Remainder.{quotientBits, refusedValue}

@@ -4,7 +4,7 @@ use mathlib.Core.Bool.{Bool, true, false, cond}
 use Prim.Native.Nat.{ℕ, suc, _+_, _-_, _*_, _/_, _^_, _≤_, _<_}
 use native.Mathlib.Nat.{mul-one, zero-add, le-refl, le-add-right}
 use native.Mathlib.Omega.{arith}
-use borrow.Author.Tests.{le-leb, lt-leb, leb-true, leb-false, ne-eqb, eq-eqb, eqb-true}
+use borrow.Author.Tests.{le-leb, lt-leb, leb-true, ne-eqb, eq-eqb, eqb-true}
 use lib.Dec.{leb, eqb, eqb·suc-zero}
 use lib.Pow.{pow-pos}
 use Rattle.digits.proofs.Tests.{clash}
@@ -27,6 +27,9 @@ weight-pos Explicit p = pow-pos p
 pub weight : (l : Layout) (f : Format) → Regular f → hiddenPart l (leading f) + storedWeight l (f .precision) ≡ leading f + leading f
 weight Hidden f r = refl
 weight Explicit f r = zero-add (2 ^ f .precision) ∙ leading-twice f r
+
+pub hidden-weight : (l : Layout) (f : Format) → l ≡ Hidden → storedWeight l (f .precision) ≡ leading f
+hidden-weight l f h = rw h
 
 pub hidden-le : (l : Layout) (h : ℕ) → hiddenPart l h ≤ h
 hidden-le Hidden h = le-refl h

@@ -4,7 +4,7 @@ use mathlib.Core.Bool.{Bool, true, false, not, cond, _&&_}
 use Prim.Native.Nat.{ℕ, _+_, _-_, _*_, _%_, _/_, _^_, _≤_, _<_}
 use native.Mathlib.Nat.{mul-one}
 use native.Mathlib.Omega.{arith}
-use borrow.Author.Tests.{eqb-true, leb-true, lt-leb, ne-eqb}
+use borrow.Author.Tests.{eqb-true, leb-true, lt-leb}
 use lib.Dec.{leb, eqb}
 use lib.Pow.{pow-pos}
 use Rattle.digits.proofs.Tests.{clash}
@@ -12,7 +12,7 @@ use Rattle.definitions.specs.Class.{Value, Class, unsupported, nan, infinite, f
 use Rattle.definitions.specs.Format.{Format, Regular, Holds, topField, fieldWeight, leading, patterns, words, x87, classOf, patternOf, ordinary, ordinaryOf}
 use Rattle.definitions.specs.Numbers.{isUnsupported}
 use Rattle.definitions.specs.declared.Layout.the-variants.{Hidden}
-use Rattle.laws.proofs.Layouts.{number, low-read, pseudo-read}
+use Rattle.laws.proofs.Layouts.{number, hidden-weight, low-read, pseudo-read}
 use Rattle.laws.proofs.Pattern.{pack, pack-read, pack-ordinary, Packed, packed, rest-small}
 use Rattle.laws.proofs.Regular.{regular80}
 use Rattle.laws.proofs.RoundTrip.{same-count, read-written, read-holds, read-infinite, read-house-nan, written-read, finite-written, written-infinite, pattern-ordinary, infinite-ordinary, house-nan-ordinary}
@@ -28,8 +28,7 @@ Numeric (finite v) = Unit {0}
 pub hidden-ordinary : (f : Format) → f .layout ≡ Hidden → (b : ℕ) → ordinary f b ≡ true
 unfolding ordinary
 hidden-ordinary f h b =
-    let w : fieldWeight f ≡ leading f = rw h in
-    let l : b % fieldWeight f < leading f = omega (arith, rest-small f b, w) in
+    let l : b % fieldWeight f < leading f = omega (arith, rest-small f b, hidden-weight (f .layout) f h) in
     rw (lt-leb (leading f) (b % fieldWeight f) l) (go (eqb (b / fieldWeight f % (topField f + 1)) 0))
   where
     go : (z : Bool) → not (z && false) ≡ true
@@ -59,7 +58,7 @@ module _ (f : Format) (r : Regular f) where
       go (infinite n) h u = read-infinite f r n
       go (finite v) h u = read-written f r v h
 
-  -- a number whose pattern is ordinary has that pattern, and a pattern that is given back is ordinary
+  -- a number whose pattern is ordinary has that pattern and no other such one, and a pattern that is given back is ordinary
   pub ordinary-own : (b : ℕ) → b < patterns f → ordinary f b ≡ true → Numeric (classOf f b) → ordinaryOf f b ≡ b
   ordinary-own b h o = go (classOf f b) refl
     where
@@ -68,6 +67,10 @@ module _ (f : Format) (r : Regular f) where
       go nan e n = absurd n
       go (infinite s) e n = written-infinite f r b s h e
       go (finite v) e n = written-read f r b v h o e
+
+  pub ordinary-one : (b c : ℕ) → b < patterns f → c < patterns f → ordinary f b ≡ true → ordinary f c ≡ true → Numeric (classOf f b)
+      → classOf f b ≡ classOf f c → b ≡ c
+  ordinary-one b c hb hc ob oc n e = sym (ordinary-own b hb ob n) ∙ ap (patternOf f) e ∙ ordinary-own c hc oc (subst Numeric e n)
 
   pub own-ordinary : (b : ℕ) → ordinaryOf f b ≡ b → ordinary f b ≡ true
   own-ordinary b e = subst (λ (c : ℕ). ordinary f c ≡ true) e (ordinary-of b)

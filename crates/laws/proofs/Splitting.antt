@@ -14,7 +14,7 @@ use Rattle.definitions.specs.Class.{Value, finite}
 use Rattle.definitions.specs.Format.{Format, Representable, Regular, exponentOf, classOf, patternOf, ordinaryOf}
 use Rattle.definitions.specs.Numbers.{first}
 use Rattle.definitions.specs.declared.Rounding.the-variants.{Exact}
-use Rattle.definitions.specs.Scale.{scaleValue, scaleOf, scaleReport, significandOf, splitOf, splitReport}
+use Rattle.definitions.specs.Scale.{scaleValue, scaleReport, significandOf, splitOf, splitReport}
 use Rattle.laws.proofs.Range.{smallest-is, exponent-is}
 use Rattle.laws.proofs.RoundTrip.{read-held, read-written}
 use Rattle.laws.proofs.Round.{round-multiple}
