@@ -1,7 +1,7 @@
 -- [5.9] the one claim over all lists of step and run calls on x87 patterns. Assumes nothing.
 use mathlib.Core.Path.{_≡_, refl, sym, ap, _∙_, subst}
 use mathlib.Core.Bool.{Bool, true, false, cond}
-use mathlib.Core.List.{List, []}
+use mathlib.Core.List.{List}
 use Prim.Native.Nat.{ℕ, _<_}
 use Rattle.definitions.specs.Class.{Value, finite}
 use Rattle.definitions.specs.Format.{classOf, patternOf, x87}
@@ -10,11 +10,11 @@ use Rattle.definitions.specs.Division.{Outcome, by, finish, dividendOf}
 use Rattle.definitions.specs.Remainder.{quotientBits}
 use Rattle.definitions.specs.Steps as Steps
 use Rattle.definitions.specs.Reports.{Report, nothing, sized, reportOf, runReport}
-use Rattle.definitions.specs.Calls.{Call, run, answer, Made, made, answers, lastValue, finished, totalSteps, totalQuotient, totalBudget, Some, Listed, EachCall, All, valueAt, EveryList}
+use Rattle.definitions.specs.Calls.{Call, run, answer, Made, made, answers, anyAccepted, lastValue, finished, totalSteps, totalQuotient, totalBudget, Some, Listed, EachCall, All, valueAt, EveryList}
 use Rattle.laws.proofs.Remainder.{remainder-is}
 use Rattle.chains.proofs.Outcome.{sound-finished, sound-bound, sound-ends}
 use Rattle.chains.proofs.Exact.{accounts-exact, accounts-whole}
-use Rattle.chains.proofs.Made.{listed-made, finished-last, finished-some, totals}
+use Rattle.chains.proofs.Made.{listed-made, finished-last, any-accepted, none-accepted, finished-some, totals}
 use Rattle.chains.proofs.Lists.{ListTells, list-last, list-each, list-tells}
 use Rattle.chains.proofs.Answer.{answer-is, State, Returned, read-state, answer-tells, answer-returned, answer-each}
 
@@ -63,9 +63,9 @@ module _ (κ : Kind) (x y : ℕ) (w : Value) (cs : List Call) (ts : List (Made �
   some-accepted : finished ts ≡ true → Some (answers ts)
   some-accepted f = finished-some (answers ts) (sym (totals κ y ts each .finished) ∙ f)
 
-  given : answers ts ≡ [] → lastValue x (answers ts) ≡ x
+  given : anyAccepted ts ≡ false → lastValue x (answers ts) ≡ x
   unfolding lastValue
-  given e = rw e
+  given e = rw (none-accepted ts e)
 
   claim : EveryList κ x y (valueAt x) w cs ts
   claim =
@@ -84,7 +84,7 @@ module _ (κ : Kind) (x y : ℕ) (w : Value) (cs : List Call) (ts : List (Made �
             remainder-is x87 κ x y (valueAt x) w sx ey p
             ∙ (λ i. record { number = 0; value = last (some-accepted f) (finish κ (by m) (valueAt x) .value) (e .value) i; quotient = (ap quotientBits (sym (e .whole)) ∙ sym all-quotient) i });
         given = given;
-        returned = λ s. returned s .ordinary;
+        returned = λ e. returned (any-accepted ts e) .ordinary;
         exact = rw (told .reached) (accounts-exact (told .account));
         one = λ n rs s.
             run-is κ n (totalBudget (answers ts)) x y (valueAt x) w sx ey p (told .size n rs s) ∙ ap runTells (sym (told .one n rs))

@@ -12,7 +12,7 @@ use Rattle.definitions.specs.Numbers.{accepted}
 use Rattle.definitions.specs.declared.Kind.{Kind}
 use Rattle.definitions.specs.Remainder.{quotientModulus, quotientBits}
 use Rattle.definitions.specs.Reports.{Report}
-use Rattle.definitions.specs.Calls.{Call, Made, made, answers, lastNumber, finished, totalSteps, totalQuotient, Some, Listed, none, refused, ends, goesOn, EachCall, All}
+use Rattle.definitions.specs.Calls.{Call, Made, made, answers, anyAccepted, lastNumber, finished, totalSteps, totalQuotient, Some, Listed, none, refused, ends, goesOn, EachCall, All}
 
 -- [5.2, 5.4] the four rules
 pub listed-made : (f : Call → ℕ → Report ℕ) (cs : List Call) (x : ℕ) → Listed f x cs (made f cs x)
@@ -53,7 +53,26 @@ finished-last f n h (refused {x} {c} e l) = rw (e, refused-some (f c x .number) 
 finished-last f n h (ends {x} {c} e) = rw e
 finished-last f n h (goesOn {x} {c} e d l) = rw (e, d) (finished-last f (f c x .number) d l)
 
--- so that it has an accepted call
+-- whether a call is accepted is whether there is one among the accepted ones
+pub any-accepted : (ts : List (Made ℕ)) → anyAccepted ts ≡ true → Some (answers ts)
+unfolding anyAccepted answers
+any-accepted [] e = clash (cc)
+any-accepted (t ∷ ts) e = go (accepted (t .report .number)) e (any-accepted ts)
+  where
+    go : (a : Bool) → a || anyAccepted ts ≡ true → (anyAccepted ts ≡ true → Some (answers ts)) → Some (cond a (t ∷ answers ts) (answers ts))
+    go true h s = tt
+    go false h s = s h
+
+pub none-accepted : (ts : List (Made ℕ)) → anyAccepted ts ≡ false → answers ts ≡ []
+unfolding anyAccepted answers
+none-accepted [] e = refl
+none-accepted (t ∷ ts) e = go (accepted (t .report .number)) e (none-accepted ts)
+  where
+    go : (a : Bool) → a || anyAccepted ts ≡ false → (anyAccepted ts ≡ false → answers ts ≡ []) → cond a (t ∷ answers ts) (answers ts) ≡ []
+    go true h s = clash (cc)
+    go false h s = s h
+
+-- a list that has finished has one
 pub finished-some : (ts : List (Made ℕ)) → finished ts ≡ true → Some ts
 unfolding finished
 finished-some [] e = clash (cc)

@@ -16,13 +16,13 @@ use Rattle.laws.proofs.Results.{result-ordinary, remainder-result, scale-result
 use Rattle.chains.proofs.Small.{step-small, run-small}
 
 -- the value of every report is ordinary, whatever the operands; that of a refusal too
-pub results-ordinary : (f : Format) → Regular f → (l : Lent) (κ : Kind) (n b x y : ℕ) (k : ℤ)
+pub every-result-ordinary : (f : Format) → Regular f → (l : Lent) (κ : Kind) (n b x y : ℕ) (k : ℤ)
     → (ordinary f (remainder f κ x y .value) ≡ true)
     × (ordinary x87 (stepReport l κ n x y .value) ≡ true)
     × (ordinary x87 (runReport l κ n b x y .value) ≡ true)
     × (ordinary f (scaleReport f x k .value) ≡ true)
     × (ordinary f (splitReport f x .significand) ≡ true)
-results-ordinary f r l κ n b x y k = (
+every-result-ordinary f r l κ n b x y k = (
   result-ordinary f r (remainder-result f r κ x y),
   step-small l κ n x y .ordinary,
   run-small l κ n x y b .ordinary,

@@ -1,14 +1,15 @@
 -- Roundings, lists, blocks and lines, computed from the definitions. Assumes nothing.
 use mathlib.Core.Path.{_≡_, refl}
-use mathlib.Core.Bool.{Bool, true, false, cond}
+use mathlib.Core.Bool.{cond}
 use mathlib.Core.List.{List, [], _∷_, map}
-use Prim.Native.Nat.{ℕ, zero, suc}
+use Prim.Native.Nat.{ℕ, zero, suc, _+_, _*_, _^_}
 use native.Mathlib.Omega.{arith}
 use lib.Ieee.{size}
-use lib.IntN.{negsuc}
+use lib.ListN.{length}
+use lib.IntN.{ℤ}
 use Rattle.digits.proofs.Tests.{not-zero}
 use Rattle.definitions.specs.Class.{gap}
-use Rattle.definitions.specs.Format.{words, binary16, classOf, patternOf, magnitude}
+use Rattle.definitions.specs.Format.{Format, words, classOf, patternOf, magnitude}
 use Rattle.definitions.specs.Numbers.{first}
 use Rattle.definitions.specs.Division.{finish}
 use Rattle.definitions.specs.Remainder.{remainder}
@@ -17,7 +18,9 @@ use Rattle.definitions.specs.declared.Rounding.{Rounding}
 use Rattle.definitions.specs.declared.Rounding.the-variants.{Exact, Up, Down}
 use Rattle.definitions.specs.Round.{Rounded, round}
 use Rattle.definitions.specs.Steps.{step, run}
-use Rattle.definitions.specs.Reports.{nothing, stepReport, runReport}
+use Rattle.definitions.specs.Reports.{nothing, block, stepReport, runReport}
+use Rattle.definitions.specs.Calls as calls
+use Rattle.definitions.specs.Calls.{Call, Made, answer, made, answers, lastValue, Runs, Some}
 use Rattle.definitions.specs.Fold.{Folded, foldList}
 use Rattle.definitions.specs.declared.Refusal.the-variants as why
 use Rattle.definitions.specs.declared.Pattern.{Pattern}
@@ -142,12 +145,6 @@ pub block-left : blockAfter zeros (stepReport nothing Truncated 31 0x40408000000
 unfolding blockAfter stepReport size gap classOf patternOf magnitude first finish step
 block-left = refl
 
-abbrev pattern : Pattern
-pattern = record { high = 0x10001; low = 0x8000000000000001 }
-
-abbrev joint : ℕ
-joint = 0x100018000000000000001
-
 -- ---- [7.2, 7.6, 9.2, 6.4] what crosses to C: two words, what scaling says, and by its number whether an answer is written
 pub crossing : (words 0xC0DF 0x8123456789ABCDEF ≡ 0xC0DF8123456789ABCDEF)
     × (significandIn 0xC0DF8123456789ABCDEF ≡ 0x8123456789ABCDEF) × (wordIn 0xC0DF8123456789ABCDEF ≡ 0xC0DF)
@@ -159,20 +156,47 @@ crossing = (refl, refl, refl, refl, refl)
 pub kinds : (kindOf 0 ≡ Truncated) × ((k : ℕ) → kindOf (suc k) ≡ Nearest)
 kinds = (refl, λ k. rw (not-zero (suc k) (omega arith)))
 
--- the fields of an answer are told as they are
-pub meanings : (remainderMeaning binary16 (rem.Finished pattern 9) ≡ record { number = 0; value = joint; quotient = 9 })
-    × (stepMeaning (steps.Finished pattern 9 5) ≡ record { number = 0; value = joint; quotient = 9; steps = 5 })
-    × (stepMeaning (steps.Unfinished pattern 9 5) ≡ record { number = 1; value = joint; quotient = 9; steps = 5 })
-    × (runMeaning (steps.Unfinished pattern 9 5) ≡ record { number = 7; value = joint; quotient = 9; steps = 5 })
-    × (scaleMeaning binary16 (scale.Scaled pattern Down) ≡ record { number = 0; value = joint; says = Down })
-    × (splitMeaning binary16 (split.Parts pattern (negsuc 8)) ≡ record { number = 0; significand = joint; exponent = negsuc 8 })
+-- the fields of an answer are told as they are, whatever the pattern v: the bits of v, and no other pattern of its value
+pub meanings : (f : Format) (v : Pattern) (q n : ℕ) (r : Rounding) (e : ℤ)
+    → let b = v .high * 2 ^ 64 + v .low in
+    (remainderMeaning f (rem.Finished v q) ≡ record { number = 0; value = b; quotient = q })
+    × (stepMeaning (steps.Finished v q n) ≡ record { number = 0; value = b; quotient = q; steps = n })
+    × (stepMeaning (steps.Unfinished v q n) ≡ record { number = 1; value = b; quotient = q; steps = n })
+    × (runMeaning (steps.Finished v q n) ≡ record { number = 0; value = b; quotient = q; steps = n })
+    × (runMeaning (steps.Unfinished v q n) ≡ record { number = 7; value = b; quotient = q; steps = n })
+    × (scaleMeaning f (scale.Scaled v r) ≡ record { number = 0; value = b; says = r })
+    × (splitMeaning f (split.Parts v e) ≡ record { number = 0; significand = b; exponent = e })
 unfolding remainderMeaning stepsMeaning scaleMeaning splitMeaning
-meanings = (refl, refl, refl, refl, refl, refl)
+meanings f v q n r e = (refl, refl, refl, refl, refl, refl, refl)
 
 -- [7.1] the number of each refusal of the code
 pub refusal-numbers : map refusalNumber (why.BadLength ∷ why.BadSize ∷ why.Unsupported ∷ why.Nan ∷ why.Infinite ∷ why.ZeroDivisor ∷ why.ZeroSplit ∷ [])
     ≡ 9 ∷ 6 ∷ 2 ∷ 3 ∷ 4 ∷ 5 ∷ 8 ∷ []
 refusal-numbers = refl
+
+-- ---- [5.2, 5.3] lists of calls from a pseudo-denormal by 1: none accepted, and a budget of 0 that is, alone, among refused ones and first
+abbrev dividend : ℕ
+dividend = 0x00008000000000000001
+
+abbrev madeFrom : List Call → List (Made ℕ)
+madeFrom cs = made (answer Truncated 0x3FFF8000000000000000) cs dividend
+
+pub last-values : map (λ cs. lastValue dividend (answers (madeFrom cs)))
+    ([]
+    ∷ (calls.step nothing 31 ∷ calls.run nothing 64 0 ∷ calls.run (block 15) 32 0 ∷ [])
+    ∷ (calls.run nothing 32 0 ∷ [])
+    ∷ (calls.run (block 17) 32 0 ∷ calls.run nothing 32 0 ∷ calls.step nothing 31 ∷ [])
+    ∷ (calls.run nothing 63 0 ∷ calls.step nothing 63 ∷ [])
+    ∷ [])
+    ≡ dividend ∷ dividend ∷ 0x00018000000000000001 ∷ 0x00018000000000000001 ∷ 0x00018000000000000001 ∷ []
+unfolding made answers lastValue answer stepReport runReport size gap classOf patternOf magnitude first finish step run
+last-values = refl
+
+-- [5.8] of these the accepted ones are runs of the size 32, and there are some
+pub one-size : let ts = answers (madeFrom (calls.run nothing 32 0 ∷ calls.step nothing 31 ∷ calls.run nothing 32 9 ∷ [])) in
+    Runs 32 ts × Some ts × (length ts ≡ 2)
+unfolding made answers answer stepReport runReport size gap classOf patternOf magnitude first finish step run
+one-size = ((refl, (refl, tt)), tt, refl)
 
 -- ---- [10.1] the bytes that are hex digits, among all, and what they stand for
 abbrev hexBytes : ℕ → ℕ → List ℕ

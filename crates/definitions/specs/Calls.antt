@@ -50,6 +50,11 @@ unfoldable pub answers : {A : Type 0} → List (Made A) → List (Made A)
 answers [] = []
 answers (t ∷ ts) = cond (accepted (t .report .number)) (t ∷ answers ts) (answers ts)
 
+-- whether there are any, said of all calls
+unfoldable pub anyAccepted : {A : Type 0} → List (Made A) → Bool
+anyAccepted [] = false
+anyAccepted (t ∷ ts) = accepted (t .report .number) || anyAccepted ts
+
 -- what accepted calls come to: the last value and number; what is given first, where there are none
 unfoldable pub lastValue : {A : Type 0} → A → List (Made A) → A
 lastValue x [] = x
@@ -171,8 +176,8 @@ pub record EveryList (κ : Kind) (x y : ℕ) (v w : Value) (cs : List Call) (ts 
   -- [5.7]
   pub whole : finished ts ≡ true → remainder x87 κ x y ≡ record { number = 0; value = lastValue x (answers ts); quotient = totalQuotient ts }
   -- [5.2, 2.10] the last value is the dividend as it was given where no call was accepted, and else an ordinary pattern
-  pub given : answers ts ≡ [] → lastValue x (answers ts) ≡ x
-  pub returned : Some (answers ts) → ordinary x87 (lastValue x (answers ts)) ≡ true
+  pub given : anyAccepted ts ≡ false → lastValue x (answers ts) ≡ x
+  pub returned : anyAccepted ts ≡ true → ordinary x87 (lastValue x (answers ts)) ≡ true
   -- [4.10]
   pub exact : valueOf v ≡ valueOf (valueAt (lastValue x (answers ts))) +ℤ valueOf w *ℤ partsSum w (links κ w ts)
   -- [5.8]

@@ -123,7 +123,7 @@ patternOf f (finite v) = withSign f (v .negative) (magnitude f (v .count))
 unfoldable pub ordinary : Format → ℕ → Bool
 ordinary f b = not (eqb (b / fieldWeight f % (topField f + 1)) 0 && leb (leading f) (b % fieldWeight f))
 
--- [2.10] the ordinary pattern of what a pattern stands for
+-- [2.10] the ordinary pattern of what a pattern stands for; of a NaN and of an unsupported one, the house NaN
 abbrev pub ordinaryOf : Format → ℕ → ℕ
 ordinaryOf f b = patternOf f (classOf f b)
 

@@ -99,7 +99,7 @@ pseudoDenormals =
     ∷ reading (twoSteps Nearest 63 0x00418000000000000000 0x0000C000000000000000) (steps 0 0x80004000000000000000 3 2)
     ∷ reading (step nothing Truncated 32 0x80008000000000000001 0xFFFF8000000000000000) (steps 0 0x80018000000000000001 0 1)
     ∷ reading (run nothing Nearest 32 0 0x00008000000000000001 0x0000C000000000000000) (steps 7 0x00018000000000000001 0 0)
-    -- two refused steps return nothing: the value is the dividend as given
+    -- two refused steps return nothing: the value is the dividend as given, and 7 stands for no number
     ∷ reading (twoSteps Truncated 31 0x00008000000000000001 0x3FFF8000000000000000) (steps 7 0x00008000000000000001 0 0)
     -- scaled by 1, halved at a tie, doubled
     ∷ reading (scale x87 0x80008000000000000001 (pos 0)) (scaled 0 0x80018000000000000001 Exact)

@@ -13,8 +13,8 @@ use Rattle.definitions.specs.Format.{Format, Regular, topField, leading, fieldW
 use Rattle.laws.proofs.Representable.{Placed, leading-twice}
 use Rattle.laws.proofs.Layouts.{number, weight, hidden-le, hidden-infinity, quiet-is, low-read, high-read, top-read, pseudo-read, low-body, high-body, finite-high}
 
--- The field e and the stored significand t, with the significand s and the number j of dropped digits that they stand for:
--- field 0 has no leading digit and drops none, and each other one has it.
+-- The field e and the stored significand t of an ordinary pattern, with the significand s and the number j of dropped digits that they
+-- stand for: field 0 has no leading digit and drops none, and each other one has it.
 pub data Fields (f : Format) : ℕ → ℕ → ℕ → ℕ → Type 0 where
   low : {t : ℕ} → t < leading f → Fields f 0 t 0 t
   high : {j t : ℕ} → suc j < topField f → t < fieldWeight f → leading f ≤ hiddenPart (f .layout) (leading f) + t

@@ -62,7 +62,7 @@ pub top-read : (l : Layout) (f : Format) (n : Bool) (t : ℕ) → leading f ≤ 
 top-read Hidden f n t g = rw (eq-eqb (topField f) (topField f) refl)
 top-read Explicit f n t g = rw (ne-eqb (topField f) 0 (omega arith), le-leb (leading f) t (omega arith), eq-eqb (topField f) (topField f) refl)
 
--- a leading digit with the field 0, which only an explicit one can be, is that of the field 1
+-- a leading digit beside the field 0 is the number that it is beside the field 1; a hidden one cannot stand there
 pub pseudo-read : (l : Layout) (f : Format) (n : Bool) (t : ℕ) → 1 < topField f → leading f ≤ t → t < storedWeight l (f .precision)
     → fieldsClass l f n 0 t ≡ fieldsClass l f n 1 t
 pseudo-read Hidden f n t h g w = absurd (omega arith)

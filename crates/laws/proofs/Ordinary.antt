@@ -44,8 +44,9 @@ module _ (f : Format) (r : Regular f) where
   written-ordinary (infinite n) h = infinite-ordinary f r n
   written-ordinary (finite v) h = pattern-ordinary f r v h
 
-  pub ordinary-of : (b : ℕ) → ordinary f (ordinaryOf f b) ≡ true
-  ordinary-of b = written-ordinary (classOf f b) (read-holds f r b)
+  -- so that the ordinary pattern of a pattern is one, whatever it is
+  pub always-ordinary : (b : ℕ) → ordinary f (ordinaryOf f b) ≡ true
+  always-ordinary b = written-ordinary (classOf f b) (read-holds f r b)
 
   -- a pattern and its ordinary pattern stand for the same
   pub ordinary-same : (b : ℕ) → isUnsupported (classOf f b) ≡ false → classOf f (ordinaryOf f b) ≡ classOf f b
@@ -72,8 +73,8 @@ module _ (f : Format) (r : Regular f) where
       → classOf f b ≡ classOf f c → b ≡ c
   ordinary-one b c hb hc ob oc n e = sym (ordinary-own b hb ob n) ∙ ap (patternOf f) e ∙ ordinary-own c hc oc (subst Numeric e n)
 
-  pub own-ordinary : (b : ℕ) → ordinaryOf f b ≡ b → ordinary f b ≡ true
-  own-ordinary b e = subst (λ (c : ℕ). ordinary f c ≡ true) e (ordinary-of b)
+  pub kept-ordinary : (b : ℕ) → ordinaryOf f b ≡ b → ordinary f b ≡ true
+  kept-ordinary b e = subst (λ (c : ℕ). ordinary f c ≡ true) e (always-ordinary b)
 
   -- ---- a pattern that is not ordinary: its field is 0, and the same significand with the field 1 is the ordinary pattern of its value
   module _ (n : Bool) (t : ℕ) (leads : leading f ≤ t) (below : t < fieldWeight f) where
@@ -139,8 +140,9 @@ module _ (f : Format) (r : Regular f) where
           let c = same-count v (record { negative = p .negative; count = p .stored * 2 ^ 0 }) i in
           absurd (omega (arith, c, p .leads, pow-pos (f .precision - 1)))
 
--- [2.4] of x87: the words with the field 0 and with the field 1, of either sign, beside a significand with its leading digit
-abbrev word : Bool → ℕ → ℕ
+-- [2.4] of x87: the words with the field 0 and with the field 1, of either sign, beside a significand with its leading digit. `word` is the
+-- word of a sign and a field.
+abbrev pub word : Bool → ℕ → ℕ
 word n e = cond n (0x8000 + e) e
 
 word-packed : (n : Bool) (e s : ℕ) → pack x87 n e s ≡ words (word n e) s
