@@ -26,8 +26,9 @@
  * with the sign of x/y. It is exact. A zero result has the sign of x. Quotient bits are those of |Q| modulo 8. By an infinite y a finite x
  * is returned, with quotient bits 0.
  *
- * Where a function returns x, by an infinite y, scaling by 0 or a run with budget 0, it returns the bits of x, with one exception: an x87
- * pseudo-denormal, which is a number like any other, comes back in its ordinary pattern (see zk_rem80). No result is a pseudo-denormal.
+ * Where a function returns x (by an infinite or a larger y, scaling by 0, scaling a split x back, a run with budget 0), it returns the bits
+ * of x, with one exception: an x87 pseudo-denormal, which is a number like any other, comes back in its ordinary pattern (see zk_rem80).
+ * No result is a pseudo-denormal.
  */
 #ifndef ZUKEMORIHA_H
 #define ZUKEMORIHA_H
@@ -110,15 +111,16 @@ uint8_t zk_rem64(uint64_t x, uint64_t y, uint32_t kind, uint64_t *value, uint32_
  *   e = 32767      J = 1    an infinity if the other 63 bits are 0, else a NaN
  *   e = 1 to 32767 J = 0    unsupported: refused with 2
  *
- * The ordinary pattern of a pseudo-denormal has e = 1. Results are always written so, here and in all functions below.
+ * The ordinary pattern of a pseudo-denormal has e = 1. A result with such a value is always written in it, here and in all functions below.
  */
 uint8_t zk_rem80(uint64_t x, uint16_t xw, uint64_t y, uint16_t yw, uint32_t kind, uint64_t *value, uint16_t *valuew, uint32_t *quotient);
 
 /*
- * One step, as FPREM (kind 0) or FPREM1 makes it, with the size n that the manuals leave to the processor. D is the exponent of x less
- * that of y, and 0 for a zero x. If D < 64 the step finishes (0) with the remainder and the quotient bits of one call. Otherwise it is
- * partial (1): with QQ = |x|/|y|/2^(D-n) cut, in both kinds, the value is x less QQ * 2^(D-n) times y, and the quotient bits are those of
- * QQ * 2^(D-n), modulo 8. A zero partial value is still partial: the next step finishes.
+ * One step, as FPREM (kind 0) or FPREM1 makes it, with the size n that the manuals leave to the processor. D is the exponent of the
+ * leading one of x less that of y, whatever their fields are, and 0 for a zero x; an infinite y finishes. If D < 64 the step finishes (0)
+ * with the remainder and the quotient bits of one call. Otherwise it is partial (1): with QQ = |x|/|y|/2^(D-n) cut, in both kinds, the
+ * value is x less QQ * 2^(D-n) times y, and the quotient bits are those of QQ * 2^(D-n), modulo 8. A zero partial value is still partial:
+ * the next step finishes.
  * Refuses with 9, 6, 2, 3, 4 or 5. length is the block's length in bytes.
  */
 uint8_t zk_step80(uint64_t x, uint16_t xw, uint64_t y, uint16_t yw, uint32_t size, uint32_t kind, uint8_t *block, size_t length);
@@ -135,7 +137,7 @@ uint8_t zk_run80(uint64_t x, uint16_t xw, uint64_t y, uint16_t yw, uint32_t size
 /*
  * x times 2^power, rounded once, ties to even. *value gets the result and *says an enum zk_says. An exponent above the format's largest
  * gives infinity; only bits below the smallest denormal are rounded away. Zeros and infinities return themselves, exact, for every power,
- * and by 0 every number does.
+ * and by 0 every number does, an x87 pseudo-denormal in its ordinary pattern.
  * Returns 0, or refuses with 2 (x87 only) or 3.
  */
 uint8_t zk_scale16(uint16_t x, int32_t power, uint16_t *value, uint8_t *says);
@@ -145,7 +147,8 @@ uint8_t zk_scale80(uint64_t x, uint16_t xw, int32_t power, uint64_t *value, uint
 
 /*
  * Splits a nonzero finite x into a significand with magnitude from 1 to below 2 and x's sign, and the exponent of its leading one.
- * Scaling the one by the other returns x, exact. Returns 0, or refuses with 2 (x87 only), 3, 4 or 8.
+ * Scaling the one by the other returns x, exact, an x87 pseudo-denormal in its ordinary pattern.
+ * Returns 0, or refuses with 2 (x87 only), 3, 4 or 8.
  */
 uint8_t zk_split16(uint16_t x, uint16_t *significand, int32_t *exponent);
 uint8_t zk_split32(uint32_t x, uint32_t *significand, int32_t *exponent);

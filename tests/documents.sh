@@ -1,6 +1,6 @@
 #!/bin/sh
 # What the documents name is there, and the crate's version is the header's: every edit in the list of its crate in docs/PROOF.md and no
-# other, every theorem that its sections 2 and 3 name, every crate in docs/ARCHITECTURE.md and docs/GATE.md, every file that a link or a
+# other, every theorem that its sections 2 and 3 name, every crate in docs/ARCHITECTURE.md and, with its number of edits, in docs/GATE.md, every file that a link or a
 # path of a page speaks of, and every sentence of docs/SCOPE.md that a comment or a page points at.
 # documents.sh [FOLDER]    the repository's, or a copy's
 set -eu
@@ -31,7 +31,8 @@ done
 
 for crate in $(ls crates); do
     grep -q "\`$crate\`" docs/ARCHITECTURE.md || say "docs/ARCHITECTURE.md does not name the crate $crate"
-    grep -q "^| \`$crate\` |" docs/GATE.md || say "docs/GATE.md has no times of the crate $crate"
+    edits=$(ls crates/$crate/must-fail 2> /dev/null | wc -l)
+    grep -q "^| \`$crate\` | [0-9]* | $edits |" docs/GATE.md || say "docs/GATE.md has no times of the crate $crate with its $edits edits"
 done
 
 for page in README.md docs/*.md docs/changes/*.md rust/zukemoriha/README.md vectors/README.md; do

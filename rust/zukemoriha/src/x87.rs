@@ -6,7 +6,7 @@
 //!
 //! FPREM and FPREM1 bring a dividend down to its remainder in steps, by a size `n` that the
 //! manuals leave to the processor; here it is the caller's, from 32 to 63 ([`SIZES`]).
-//! `D` is the exponent of `x` less that of `y`, and 0 for a zero `x`.
+//! `D` is the exponent of the leading one of `x` less that of `y`, and 0 for a zero `x`.
 //!
 //! - If `D` is below 64, the step finishes with the remainder and its quotient bits.
 //! - Otherwise it is partial. `QQ` is the magnitude of `x / y / 2^(D - n)`, cut in both kinds.
