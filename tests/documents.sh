@@ -1,7 +1,7 @@
 #!/bin/sh
 # What the documents name is there, and the crate's version is the header's: every edit in the list of its crate in docs/PROOF.md and no
-# other, every theorem that its sections 2 and 3 name, every crate in docs/ARCHITECTURE.md and, with its number of edits, in docs/GATE.md, every file that a link or a
-# path of a page speaks of, and every sentence of docs/SCOPE.md that a comment or a page points at.
+# other, every theorem that its sections 2 and 3 name, every crate in docs/ARCHITECTURE.md and, with its number of edits, in docs/GATE.md,
+# every file that a link or a path of a page speaks of, and every sentence of docs/SCOPE.md that a comment or a page points at.
 # documents.sh [FOLDER]    the repository's, or a copy's
 set -eu
 unset CDPATH
