@@ -50,7 +50,7 @@ unfoldable pub answers : {A : Type 0} → List (Made A) → List (Made A)
 answers [] = []
 answers (t ∷ ts) = cond (accepted (t .report .number)) (t ∷ answers ts) (answers ts)
 
--- whether there are any, said of all calls
+-- whether there are any, said without that list
 unfoldable pub anyAccepted : {A : Type 0} → List (Made A) → Bool
 anyAccepted [] = false
 anyAccepted (t ∷ ts) = accepted (t .report .number) || anyAccepted ts

@@ -80,14 +80,14 @@ answered =
     ∷ reading (split x87 0x00000000000000000001) (parts 0 0x3FFF8000000000000000 (negsuc 16444))
     ∷ []
 
--- [2.4, 2.10] a leading digit with the field 0: the number that the field 1 has too, which is returned with the field 1
+-- [2.4, 2.10] a leading digit with the field 0: the number that it is with the field 1, and is returned with that
 unfoldable pub pseudoDenormals : List Reading
 pseudoDenormals =
     -- a dividend: below its divisor, by infinity, and by the smallest denormal
     reading (divide x87 Truncated 0x00008000000000000000 0x3FFF8000000000000000) (value 0 0x00018000000000000000 0)
     ∷ reading (divide x87 Nearest 0x8000FFFFFFFFFFFFFFFF 0x7FFF8000000000000000) (value 0 0x8001FFFFFFFFFFFFFFFF 0)
     ∷ reading (divide x87 Truncated 0x80008000000000000005 0x00000000000000000001) (value 0 0x80000000000000000000 5)
-    -- a divisor: one and a half of it, and its largest denormal
+    -- a divisor: one and a half of it, and the largest denormal
     ∷ reading (divide x87 Truncated 0x0001C000000000000000 0x00008000000000000000) (value 0 0x00004000000000000000 1)
     ∷ reading (divide x87 Nearest 0x0001C000000000000000 0x80008000000000000000) (value 0 0x80004000000000000000 2)
     ∷ reading (divide x87 Nearest 0x00007FFFFFFFFFFFFFFF 0x00008000000000000000) (value 0 0x80000000000000000001 1)
@@ -101,7 +101,7 @@ pseudoDenormals =
     ∷ reading (run nothing Nearest 32 0 0x00008000000000000001 0x0000C000000000000000) (steps 7 0x00018000000000000001 0 0)
     -- two refused steps return nothing: the value is the dividend as given, and 7 stands for no number
     ∷ reading (twoSteps Truncated 31 0x00008000000000000001 0x3FFF8000000000000000) (steps 7 0x00008000000000000001 0 0)
-    -- scaled by 1, halved at a tie, doubled
+    -- scaled by 0, halved at a tie, doubled
     ∷ reading (scale x87 0x80008000000000000001 (pos 0)) (scaled 0 0x80018000000000000001 Exact)
     ∷ reading (scale x87 0x00008000000000000001 (negsuc 0)) (scaled 0 0x00004000000000000000 Down)
     ∷ reading (scale x87 0x00008000000000000001 (pos 1)) (scaled 0 0x00028000000000000001 Exact)

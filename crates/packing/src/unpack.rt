@@ -15,7 +15,7 @@ ghost use Rattle.definitions.specs.Answers.{joined};
 ghost use Rattle.operands.specs.Operand.{operandOf};
 ghost use Rattle.shapes.specs.Shape.{formatOf, Sound};
 
-// Field 0 need not have a leading digit, and every other one has it. Only crates of this repository call it, with the shape of a format.
+// Field 0 may have a leading digit or none, and every other one has it. Only crates of this repository call it, with the shape of a format.
 pub fn unpack(shape: Shape, pattern: Pattern) -> Operand
     requires { ⌜ Sound (formatOf shape) × (joined pattern < patterns (formatOf shape)) ⌝ }
     ensures { λ r. ⌜ r ≡ operandOf (shape .smallest) (classOf (formatOf shape) (joined pattern)) ⌝ }
