@@ -26,9 +26,9 @@
  * with the sign of x/y. It is exact. A zero result has the sign of x. Quotient bits are those of |Q| modulo 8. By an infinite y a finite x
  * is returned, with quotient bits 0.
  *
- * Where a function returns x (by an infinite or a larger y, scaling by 0, scaling a split x back, a run with budget 0), it returns the bits
- * of x, with one exception: an x87 pseudo-denormal, which is a number like any other, comes back in its ordinary pattern (see zk_rem80).
- * No result is a pseudo-denormal.
+ * Where a function returns x (with quotient 0, as by an infinite y; scaling by 0; scaling a split x back; a run with budget 0), it returns
+ * the bits of x, with one exception: an x87 pseudo-denormal, which is a number like any other, comes back in its ordinary pattern (see
+ * zk_rem80). No result is a pseudo-denormal.
  */
 #ifndef ZUKEMORIHA_H
 #define ZUKEMORIHA_H

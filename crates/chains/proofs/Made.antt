@@ -53,7 +53,7 @@ finished-last f n h (refused {x} {c} e l) = rw (e, refused-some (f c x .number) 
 finished-last f n h (ends {x} {c} e) = rw e
 finished-last f n h (goesOn {x} {c} e d l) = rw (e, d) (finished-last f (f c x .number) d l)
 
--- whether a call is accepted is whether there is one among the accepted ones
+-- where any call was accepted there is one among the accepted ones, and where none was there is none
 pub any-accepted : (ts : List (Made ℕ)) → anyAccepted ts ≡ true → Some (answers ts)
 unfolding anyAccepted answers
 any-accepted [] e = clash (cc)

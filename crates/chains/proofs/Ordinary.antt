@@ -66,7 +66,7 @@ unfolding answer
 answers-same κ (step l n) x u y w ex ey = calls-same l κ n 0 x u y w ex ey .0
 answers-same κ (run l n b) x u y w ex ey = calls-same l κ n b x u y w ex ey .1
 
-abbrev reports : List (Made ℕ) → List (Report ℕ)
+abbrev pub reports : List (Made ℕ) → List (Report ℕ)
 reports ts = map (λ (t : Made ℕ). t .report) ts
 
 pub lists-same : (κ : Kind) (cs : List Call) (x u y w : ℕ) → classOf x87 x ≡ classOf x87 u → classOf x87 y ≡ classOf x87 w

@@ -28,8 +28,8 @@ pub weight : (l : Layout) (f : Format) → Regular f → hiddenPart l (leading f
 weight Hidden f r = refl
 weight Explicit f r = zero-add (2 ^ f .precision) ∙ leading-twice f r
 
-pub hidden-weight : (l : Layout) (f : Format) → l ≡ Hidden → storedWeight l (f .precision) ≡ leading f
-hidden-weight l f h = rw h
+pub hidden-weight : (f : Format) → f .layout ≡ Hidden → fieldWeight f ≡ leading f
+hidden-weight f h = rw h
 
 pub hidden-le : (l : Layout) (h : ℕ) → hiddenPart l h ≤ h
 hidden-le Hidden h = le-refl h

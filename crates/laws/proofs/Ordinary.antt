@@ -28,7 +28,7 @@ Numeric (finite v) = Unit {0}
 pub hidden-ordinary : (f : Format) → f .layout ≡ Hidden → (b : ℕ) → ordinary f b ≡ true
 unfolding ordinary
 hidden-ordinary f h b =
-    let l : b % fieldWeight f < leading f = omega (arith, rest-small f b, hidden-weight (f .layout) f h) in
+    let l : b % fieldWeight f < leading f = omega (arith, rest-small f b, hidden-weight f h) in
     rw (lt-leb (leading f) (b % fieldWeight f) l) (go (eqb (b / fieldWeight f % (topField f + 1)) 0))
   where
     go : (z : Bool) → not (z && false) ≡ true

@@ -30,10 +30,7 @@ module _ (f : Format) (ok : Sound f) where
   pub significand-word : (t : ℕ) → t < fieldWeight f → hiddenPart (f .layout) (leading f) + t < 2 ^ 64
   significand-word t h = omega (arith, weight (f .layout) f (ok .regular), leading-le)
 
-  -- each layout: with a hidden leading digit the field's weight is the leading digit's, and all patterns are of one word
-  pub hidden-weight : f .layout ≡ Hidden → fieldWeight f ≡ leading f
-  hidden-weight e = rw e
-
+  -- each layout: with a hidden leading digit all patterns are of one word
   pub hidden-patterns : f .layout ≡ Hidden → patterns f ≤ 2 ^ 64
   hidden-patterns e = subst (λ (l : Layout). Filled l f) e (ok .filled)
 

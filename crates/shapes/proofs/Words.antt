@@ -11,8 +11,9 @@ use Rattle.definitions.specs.Format.{Format, topField, leading, fieldWeight, si
 use Rattle.definitions.specs.Answers.{joined}
 use Rattle.definitions.specs.declared.Layout.the-variants.{Hidden, Explicit}
 use Rattle.definitions.specs.declared.Pattern.{Pattern}
+use Rattle.laws.proofs.Layouts.{hidden-weight}
 use Rattle.shapes.specs.Shape.{Sound, fieldsAbove, fieldsIn}
-use Rattle.shapes.proofs.Weights.{leading-pos, hidden-weight, hidden-patterns, explicit-weight}
+use Rattle.shapes.proofs.Weights.{leading-pos, hidden-patterns, explicit-weight}
 
 -- what stands above the stored significand t, as a, has the sign if it exceeds the largest field
 module _ (f : Format) (a t : ℕ) (rest : t < fieldWeight f) where
@@ -39,11 +40,11 @@ module _ (f : Format) (ok : Sound f) (p : Pattern) (small : joined p < patterns 
     pub hidden-above : p .low / leading f < 2 * (topField f + 1)
     hidden-above =
         div-lt-iff-lt-mul (leading-pos f ok) .1
-        (let l : p .low < patterns f = rw low-alone small in omega (arith, rw (hidden-weight f ok hidden) at l))
+        (let l : p .low < patterns f = rw low-alone small in omega (arith, rw (hidden-weight f hidden) at l))
 
     pub hidden-fields : fieldsAbove (topField f) (p .low / leading f) (p .low % leading f) ≡ fieldsIn f (joined p)
     hidden-fields =
-        let w = hidden-weight f ok hidden in
+        let w = hidden-weight f hidden in
         let l : p .low % leading f < fieldWeight f = rw w (mod-lt (p .low) (leading-pos f ok)) in
         fields-above f (p .low / leading f) (p .low % leading f) l
         ∙ ap (fieldsIn f) (ap (λ (h : ℕ). p .low / leading f * h + p .low % leading f) w ∙ div-add-mod' (p .low) (leading f) ∙ low-alone)
@@ -74,7 +75,7 @@ module _ (f : Format) (e t : ℕ) where
   -- a hidden leading digit: both go into one word
   pub hidden-word : Sound f → f .layout ≡ Hidden → e ≤ topField f → t < fieldWeight f → (n : Bool) → above f n e * leading f + t < 2 ^ 64
   hidden-word ok hidden h g n =
-      let w = hidden-weight f ok hidden in
+      let w = hidden-weight f hidden in
       let l = digits-lt {q = above f n e} {m = 2 * (topField f + 1)} {r = t} {c = leading f} (above-small h n) (rw w at g) in
       let k = rw w at (hidden-patterns f ok hidden) in
       omega arith

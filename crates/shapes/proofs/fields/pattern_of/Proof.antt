@@ -4,8 +4,9 @@ use mathlib.Core.Logic.{⊎-elim}
 use Prim.Native.Nat.{_+_, _*_, _^_, _<_}
 use native.Mathlib.Nat.{zero-add}
 use native.Mathlib.Omega.{arith}
+use Rattle.laws.proofs.Layouts.{hidden-weight}
 use Rattle.shapes.specs.Shape.{formatOf}
-use Rattle.shapes.proofs.Weights.{hidden-weight, explicit-weight}
+use Rattle.shapes.proofs.Weights.{explicit-weight}
 use Rattle.shapes.proofs.Words.{above, above-pattern, hidden-word}
 use borrow.Author.Needs.{needs}
 use Rattle.shapes.proofs.fields.pattern_of.Statement.{statement}
@@ -51,7 +52,7 @@ returns c =
     let k = c .before .before in
     let s = k .before .before .before .before in
     let f = formatOf (s .args .shape) in
-    rw (zero-add, k .leading-weight .ensures, above-is (k .before .before .before), ← hidden-weight f (s .pre .0) (k .before .enum-told .given .1))
+    rw (zero-add, k .leading-weight .ensures, above-is (k .before .before .before), ← hidden-weight f (k .before .enum-told .given .1))
     (above-pattern f (s .args .fields .field) (s .args .fields .stored) (s .args .fields .negative))
 
 returns-2 : tie.Need-returns-2
