@@ -16,6 +16,7 @@ pub mod Block
 pub mod Line
 pub mod Difference
 pub mod Stem
+pub mod StemWriter
 pub mod Table
 pub mod Samples
 pub mod Exports

@@ -29,9 +29,18 @@ pub record Point : Type 0 where
 abbrev pub gaugeOf : ℕ → ℕ → ℕ → Gauge
 gaugeOf kind period origin = cond (eqb kind 0) (turn period) (roller period origin)
 
+-- and the three of a gauge: a turn has no origin, and all zeros stand for it
+abbrev pub kindOf : Gauge → ℕ
+kindOf (turn p) = 0
+kindOf (roller p o) = 1
+
 abbrev pub periodOf : Gauge → ℕ
 periodOf (turn p) = p
 periodOf (roller p o) = p
+
+abbrev pub originOf : Gauge → ℕ
+originOf (turn p) = 0
+originOf (roller p o) = o
 
 -- [11.4] finite and above zero
 abbrev pub isPositive : Class → Bool

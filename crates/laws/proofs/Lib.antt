@@ -25,4 +25,5 @@ pub mod Block
 pub mod Fold
 pub mod Line
 pub mod Stem
+pub mod StemWriter
 pub mod Folded

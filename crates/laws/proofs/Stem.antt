@@ -14,23 +14,11 @@ use lib.Seq.{drop-drop, take-add, length-take-le}
 use Rattle.digits.proofs.Tests.{clash, and-both}
 use Rattle.definitions.specs.Numbers.{Check, first}
 use Rattle.definitions.specs.Bytes.{bytesOf, ofBytes, loaded}
-use Rattle.definitions.specs.Stem.{Gauge, turn, roller, gaugeOf, periodOf, good, goodFields, headerLength, pointLength, mark, version, pointLimit, fileMark, fileVersion, fileKind, fileCount, filePeriod, fileOrigin, judging, opened, refused, stem, stemNumber, stemPoints, pointAt, handing}
+use Rattle.definitions.specs.Stem.{Gauge, turn, roller, gaugeOf, kindOf, periodOf, originOf, good, goodFields, headerLength, pointLength, mark, version, pointLimit, fileMark, fileVersion, fileKind, fileCount, filePeriod, fileOrigin, judging, opened, refused, stem, stemNumber, stemPoints, pointAt, handing}
+use Rattle.definitions.specs.StemWriter.{headerOf}
 use Rattle.laws.proofs.Bytes.{AreBytes, of-bytes, bytes-of, take-bytes, drop-bytes}
 
 -- ---- the claim
-
--- [11.2, 11.3] the kind of a gauge and its origin, which a turn has not
-abbrev pub kindOf : Gauge → ℕ
-kindOf (turn p) = 0
-kindOf (roller p o) = 1
-
-abbrev pub originOf : Gauge → ℕ
-originOf (turn p) = 0
-originOf (roller p o) = o
-
--- [11.1] the fields of a header in their row
-abbrev pub headerOf : Gauge → ℕ → List ℕ
-headerOf g n = mark ++ bytesOf 2 version ++ bytesOf 1 (kindOf g) ++ bytesOf 4 n ++ bytesOf 8 (periodOf g) ++ bytesOf 8 (originOf g)
 
 -- [11.1 to 11.5] the file is the header of a gauge that is taken and of n points, and then the bytes of n points
 pub record Row (file : List ℕ) (g : Gauge) (points : List ℕ) (n : ℕ) : Type 0 where
@@ -54,7 +42,7 @@ pub record Passed (file : List ℕ) : Type 0 where
   pub gauge : goodFields (fileKind file) (filePeriod file) (fileOrigin file) ≡ true
 
 -- where none of a list applies, its first does not, and none of the others
-none-first : (c : Check) (cs : List Check) → (c .number ≡ 0 → ⊥) → first (c ∷ cs) ≡ 0 → (c .test ≡ false) × (first cs ≡ 0)
+pub none-first : (c : Check) (cs : List Check) → (c .number ≡ 0 → ⊥) → first (c ∷ cs) ≡ 0 → (c .test ≡ false) × (first cs ≡ 0)
 unfolding first
 none-first c cs h = go (c .test)
   where
@@ -175,13 +163,13 @@ module _ (file : List ℕ) (are : AreBytes file) where
       rw e at (number-small (take k d) (take-bytes k d (drop-bytes at file are)))
 
 -- the gauge of the fields has these fields, and is taken if they are
-record Held (kind period origin : ℕ) (g : Gauge) : Type 0 where
-  kindIs : kind ≡ kindOf g
-  periodIs : period ≡ periodOf g
-  originIs : origin ≡ originOf g
-  taken : good g ≡ true
+pub record Held (kind period origin : ℕ) (g : Gauge) : Type 0 where
+  pub kindIs : kind ≡ kindOf g
+  pub periodIs : period ≡ periodOf g
+  pub originIs : origin ≡ originOf g
+  pub taken : good g ≡ true
 
-held : (kind period origin : ℕ) → kind ≤ 1 → goodFields kind period origin ≡ true → Held kind period origin (gaugeOf kind period origin)
+pub held : (kind period origin : ℕ) → kind ≤ 1 → goodFields kind period origin ≡ true → Held kind period origin (gaugeOf kind period origin)
 unfolding goodFields
 held zero period origin l e =
     let b = and-both (good (turn period)) (eqb origin 0) e in
@@ -228,13 +216,13 @@ module _ (file : List ℕ) (are : AreBytes file) where
 -- ---- and such a row is accepted
 
 -- a gauge is that of its fields, and they are as they have to be
-gauge-back : (g : Gauge) → good g ≡ true
+pub gauge-back : (g : Gauge) → good g ≡ true
     → (gaugeOf (kindOf g) (periodOf g) (originOf g) ≡ g) × (goodFields (kindOf g) (periodOf g) (originOf g) ≡ true)
 unfolding goodFields
 gauge-back (turn p) e = (refl, rw e)
 gauge-back (roller p o) e = (refl, rw e)
 
-kind-small : (g : Gauge) → kindOf g ≤ 1
+pub kind-small : (g : Gauge) → kindOf g ≤ 1
 kind-small (turn p) = lit≤ tt
 kind-small (roller p o) = lit≤ tt
 
@@ -253,7 +241,7 @@ module _ (file : List ℕ) (g : Gauge) (points : List ℕ) (n : ℕ) (r : Row fi
   pub row-count : fileCount file ≡ n
   row-count = rw (r .bytes) (of-bytes 4 n ∙ mod-eq-of-lt (lt-of-le-of-lt (r .most) (lit< tt)))
 
-  row-long : length file ≡ headerLength + pointLength * n
+  pub row-long : length file ≡ headerLength + pointLength * n
   row-long = rw (r .bytes) (omega (arith, r .long))
 
   row-passed : Passed file

@@ -1,0 +1,277 @@
+-- Stem files, written: what is written reads back as it was, a file that is accepted is written again as it is, and what a call leaves in
+-- the room. Assumes nothing.
+use mathlib.Core.Path.{_≡_, refl, sym, ap, _∙_}
+use mathlib.Core.Bool.{Bool, true, false, not, cond}
+use mathlib.Core.List.{List, [], _∷_, _++_}
+use Prim.Native.Nat.{ℕ, zero, suc, _+_, _*_, _/_, _%_, _^_, _≤_, _<_}
+use native.Mathlib.Nat.{mod-eq-of-lt, lt-of-le-of-lt}
+use native.Mathlib.Omega.{arith}
+use borrow.Author.Tests.{eqb-true, eqb-false, eq-eqb, ne-eqb, ltb-false, le-ltb, not-false}
+use lib.Dec.{ltb, eqb, lit<}
+use lib.ListN.{length, getD, take, drop, length-append, length-drop, take-append-drop}
+use lib.Seq.{take-at, drop-at, drop-drop}
+use Rattle.definitions.specs.Numbers.{Check, first}
+use Rattle.definitions.specs.Bytes.{bytesOf, ofBytes, loaded}
+use Rattle.definitions.specs.Stem.{Gauge, turn, roller, Point, gaugeOf, kindOf, periodOf, originOf, good, goodFields, headerLength, pointLength, pointLimit, fileCount, opened, stem, stemNumber, pointAt, handing}
+use Rattle.definitions.specs.StemWriter.{pointsOf, pointsFrom, pointsIn, header, headerOf, pointBytes, stemFile, writing, Written, writeFields, writeStem}
+use Rattle.laws.proofs.Bytes.{AreBytes, length-bytes, of-bytes, drop-bytes}
+use Rattle.laws.proofs.Stem.{Row, none-first, Held, held, gauge-back, kind-small, opened-file, file-opened, file-number, row-long, point-bytes, handing-number}
+
+-- ---- the claim
+
+-- every number of a list, and of a list of points, is a pattern of 64 bits: any, a NaN's too
+abbrev pub ArePatterns : List ℕ → Type 0
+ArePatterns l = (i : ℕ) → getD l i 0 < 2 ^ 64
+
+abbrev pub PointPatterns : List Point → Type 0
+PointPatterns [] = Unit {0}
+PointPatterns (p ∷ ps) = (p .reading < 2 ^ 64) × (p .radius < 2 ^ 64) × PointPatterns ps
+
+-- [12.6] a file is opened with this gauge and these points
+abbrev pub ReadsAs : List ℕ → Gauge → List Point → Type 0
+ReadsAs file g ps = (points : List ℕ) × (stem file ≡ opened g points) × (pointsIn points ≡ ps)
+
+-- ---- points as bytes, and back
+
+pub length-points : (ps : List Point) → length (pointBytes ps) ≡ pointLength * length ps
+length-points [] = refl
+length-points (p ∷ ps) = omega (arith, length-points ps)
+
+-- [12.1] how long a file is
+pub length-file : (g : Gauge) (ps : List Point) → length (stemFile g ps) ≡ headerLength + pointLength * length ps
+length-file g ps = omega (arith, length-points ps)
+
+points-count : (points : List ℕ) (n : ℕ) → length points ≡ pointLength * n → length points / pointLength ≡ n
+points-count points n e = omega (arith, e)
+
+length-from : (i n : ℕ) (points : List ℕ) → length (pointsFrom i n points) ≡ n
+length-from i zero points = refl
+length-from i (suc n) points = ap suc (length-from (suc i) n points)
+
+-- a place further on is the same place of what follows a point
+point-after : (points : List ℕ) (i : ℕ) → pointAt points (suc i) ≡ pointAt (drop pointLength points) i
+point-after points i =
+    let at : (j : ℕ) → loaded 8 (pointLength + j) points ≡ loaded 8 j (drop pointLength points) = λ j. rw (drop-drop j pointLength points) in
+    let e : pointLength * suc i ≡ pointLength + pointLength * i = omega arith in
+    let f : pointLength * suc i + 8 ≡ pointLength + (pointLength * i + 8) = omega arith in
+    rw (f, e, at (pointLength * i), at (pointLength * i + 8))
+
+points-after : (i n : ℕ) (points : List ℕ) → pointsFrom (suc i) n points ≡ pointsFrom i n (drop pointLength points)
+points-after i zero points = refl
+points-after i (suc n) points = rw (point-after points i, points-after (suc i) n points)
+
+-- points are read as they were written
+pattern-read : (n : ℕ) (rest : List ℕ) → n < 2 ^ 64 → loaded 8 0 (bytesOf 8 n ++ rest) ≡ n
+pattern-read n rest h = of-bytes 8 n ∙ mod-eq-of-lt h
+
+points-read : (ps : List Point) → PointPatterns ps → pointsFrom 0 (length ps) (pointBytes ps) ≡ ps
+points-read [] h = refl
+points-read (p ∷ ps) h =
+    let rest = pointBytes ps in
+    let x : loaded 8 0 (pointBytes (p ∷ ps)) ≡ p .reading = pattern-read (p .reading) (bytesOf 8 (p .radius) ++ rest) (h .0) in
+    let r : loaded 8 8 (pointBytes (p ∷ ps)) ≡ p .radius = pattern-read (p .radius) rest (h .1) in
+    rw (points-after 0 (length ps) (pointBytes (p ∷ ps)), x, r, points-read ps (h .2))
+
+-- and bytes are written as they were read
+points-written : (n : ℕ) (points : List ℕ) → AreBytes points → length points ≡ pointLength * n → pointBytes (pointsFrom 0 n points) ≡ points
+points-written zero [] h e = refl
+points-written zero (b ∷ bs) h e = absurd (omega (arith, e))
+points-written (suc n) points h e =
+    let rest = drop pointLength points in
+    let more : pointBytes (pointsFrom 0 n rest) ≡ rest =
+    points-written n rest (drop-bytes pointLength points h) (rw (length-drop pointLength points) (omega (arith, e))) in
+    let one : bytesOf 8 (loaded 8 0 points) ++ bytesOf 8 (loaded 8 8 points) ≡ take pointLength points = point-bytes points h 0 (omega (arith, e)) in
+    rw (points-after 0 n points, more) (ap (λ (l : List ℕ). l ++ rest) one ∙ take-append-drop pointLength points)
+
+-- ---- the two round trips, of files
+
+module _ (g : Gauge) (ps : List Point) (taken : good g ≡ true) (period : periodOf g < 2 ^ 64) (origin : originOf g < 2 ^ 64) (patterns : PointPatterns ps) (most : length ps ≤ pointLimit) where
+  written-row : Row (stemFile g ps) g (pointBytes ps) (length ps)
+  written-row =
+      record { bytes = refl; period = period; origin = origin; taken = taken; most = most; long = length-points ps }
+
+  -- [12.6] what is written is accepted, and reads back as the same gauge and the same points, bit for bit
+  pub file-reads-back : ReadsAs (stemFile g ps) g ps
+  file-reads-back =
+      let e = points-count (pointBytes ps) (length ps) (length-points ps) in
+      (pointBytes ps, file-opened (stemFile g ps) g (pointBytes ps) (length ps) written-row, rw e (points-read ps patterns))
+
+-- [12.7] a file that is accepted is the one that its gauge and its points are written as
+pub file-written-again : (file : List ℕ) → AreBytes file → (g : Gauge) (ps : List Point) → ReadsAs file g ps → stemFile g ps ≡ file
+file-written-again file are g ps (points, o, e) =
+    let r = opened-file file are g points o in
+    let n = fileCount file in
+    let k = points-count points n (r .long) in
+    let rest : drop headerLength file ≡ points = ap (drop headerLength) (r .bytes) in
+    let bytes : AreBytes points = rw (← rest) (drop-bytes headerLength file are) in
+    let back : pointBytes ps ≡ points = rw (← e, k) (points-written n points bytes (r .long)) in
+    let many : length ps ≡ n = rw (← e, k) (length-from 0 n points) in
+    rw (back, many) (sym (r .bytes))
+
+-- ---- the calls
+
+-- [12.3] the number, by what is lent
+pub writing-number : (kind period origin readings radii room : ℕ) → first (writing kind period origin readings radii room)
+    ≡ cond (eqb readings radii)
+    (cond (ltb 1 kind) 12
+    (cond (ltb 4000 readings) 13
+    (cond (goodFields kind period origin)
+    (cond (ltb room (26 + 16 * readings)) 16 0)
+    15)))
+    9
+unfolding first
+writing-number kind period origin readings radii room =
+    go (eqb readings radii) (ltb 1 kind) (ltb 4000 readings) (goodFields kind period origin) (ltb room (26 + 16 * readings))
+  where
+    go : (a b c d e : Bool)
+        → _≡_ {A = ℕ} (cond (not a) 9 (cond b 12 (cond c 13 (cond (not d) 15 (cond e 16 0)))))
+        (cond a (cond b 12 (cond c 13 (cond d (cond e 16 0) 15))) 9)
+    go false b c d e = refl
+    go true true c d e = refl
+    go true false true d e = refl
+    go true false false false e = refl
+    go true false false true true = refl
+    go true false false true false = refl
+
+-- a call that no check refuses
+pub record Accepted (kind period origin : ℕ) (readings radii room : ℕ) : Type 0 where
+  pub equal : readings ≡ radii
+  pub known : kind ≤ 1
+  pub most : readings ≤ pointLimit
+  pub gauge : goodFields kind period origin ≡ true
+  pub fits : headerLength + pointLength * readings ≤ room
+
+pub accepted : (kind period origin readings radii room : ℕ) → first (writing kind period origin readings radii room) ≡ 0 → Accepted kind period origin readings radii room
+accepted kind period origin readings radii room e =
+    let from : ℕ → List Check = λ n. drop n (writing kind period origin readings radii room) in
+    let c1 = none-first _ (from 1) (λ z. omega arith) e in
+    let c2 = none-first _ (from 2) (λ z. omega arith) (c1 .1) in
+    let c3 = none-first _ (from 3) (λ z. omega arith) (c2 .1) in
+    let c4 = none-first _ (from 4) (λ z. omega arith) (c3 .1) in
+    let c5 = none-first _ (from 5) (λ z. omega arith) (c4 .1) in
+    record {
+      equal = eqb-true readings radii (not-false _ (c1 .0));
+      known = ltb-false 1 kind (c2 .0);
+      most = ltb-false pointLimit readings (c3 .0);
+      gauge = not-false _ (c4 .0);
+      fits = ltb-false room (headerLength + pointLength * readings) (c5 .0);
+    }
+
+judged : (kind period origin readings radii room : ℕ) → Accepted kind period origin readings radii room → first (writing kind period origin readings radii room) ≡ 0
+unfolding first
+judged kind period origin readings radii room a =
+    rw (
+      eq-eqb readings radii (a .equal),
+      le-ltb 1 kind (a .known),
+      le-ltb pointLimit readings (a .most),
+      a .gauge,
+      le-ltb room (headerLength + pointLength * readings) (a .fits),
+    )
+
+pub length-pairs : (readings radii : List ℕ) → length readings ≡ length radii → length (pointsOf readings radii) ≡ length readings
+length-pairs [] radii e = refl
+length-pairs (x ∷ readings) [] e = absurd (omega (arith, e))
+length-pairs (x ∷ readings) (r ∷ radii) e = ap suc (length-pairs readings radii (omega (arith, e)))
+
+pair-patterns : (readings radii : List ℕ) → ArePatterns readings → ArePatterns radii → PointPatterns (pointsOf readings radii)
+pair-patterns [] radii h k = tt
+pair-patterns (x ∷ readings) [] h k = tt
+pair-patterns (x ∷ readings) (r ∷ radii) h k = (h 0, k 0, pair-patterns readings radii (λ i. h (suc i)) (λ i. k (suc i)))
+
+module _ (kind period origin : ℕ) (readings radii room : List ℕ) where
+  abbrev call : Written
+  call = writeFields kind period origin readings radii room
+
+  abbrev number : ℕ
+  number = first (writing kind period origin (length readings) (length radii) (length room))
+
+  abbrev file : List ℕ
+  file = stemFile (gaugeOf kind period origin) (pointsOf readings radii)
+
+  pub write-number : call .number ≡ number
+  unfolding writeFields
+  write-number = refl
+
+  -- [12.5] a refusal leaves the room as it was
+  pub write-refused : (number ≡ 0 → ⊥) → (call .written ≡ 0) × (call .room ≡ room)
+  unfolding writeFields
+  write-refused h = rw (ne-eqb number 0 h) (refl, refl)
+
+  pub write-accepted : number ≡ 0 → (call .written ≡ length file) × (call .room ≡ file ++ drop (length file) room)
+  unfolding writeFields
+  write-accepted e = rw (eq-eqb number 0 e) (refl, refl)
+
+  file-long : number ≡ 0 → length file ≡ headerLength + pointLength * length readings
+  file-long e =
+      let a = accepted kind period origin (length readings) (length radii) (length room) e in
+      length-file (gaugeOf kind period origin) (pointsOf readings radii) ∙ ap (λ n. headerLength + pointLength * n) (length-pairs readings radii (a .equal))
+
+  -- [12.4] the file lies at the front, every byte past it is as it was
+  pub write-front : number ≡ 0 → take (call .written) (call .room) ≡ file
+  write-front e = rw (write-accepted e .0, write-accepted e .1) (take-at file (drop (length file) room) (length file) refl)
+
+  pub write-rest : number ≡ 0 → drop (call .written) (call .room) ≡ drop (call .written) room
+  write-rest e = rw (write-accepted e .0, write-accepted e .1) (drop-at file (drop (length file) room) (length file) refl)
+
+  -- [12.5] its length is told
+  pub write-length : number ≡ 0 → call .written ≡ 26 + 16 * length readings
+  write-length e = write-accepted e .0 ∙ file-long e
+
+  -- the room is as long as it was, whatever the number
+  pub write-room : length (call .room) ≡ length room
+  write-room = go (eqb number 0) refl
+    where
+      go : (t : Bool) → eqb number 0 ≡ t → length (call .room) ≡ length room
+      go true e =
+          let z = eqb-true number 0 e in
+          let a = accepted kind period origin (length readings) (length radii) (length room) z in
+          rw (write-accepted z .1, length-append file (drop (length file) room), length-drop (length file) room) (omega (arith, file-long z, a .fits))
+      go false e = ap length (write-refused (eqb-false number 0 e) .1)
+
+  -- [12.6] a call that is accepted leaves a file that reads back as the gauge and the points that were handed over
+  pub call-reads-back : period < 2 ^ 64 → origin < 2 ^ 64 → ArePatterns readings → ArePatterns radii → number ≡ 0
+      → ReadsAs (take (call .written) (call .room)) (gaugeOf kind period origin) (pointsOf readings radii)
+  call-reads-back p o h k e =
+      let a = accepted kind period origin (length readings) (length radii) (length room) e in
+      let g = held kind period origin (a .known) (a .gauge) in
+      let n = length-pairs readings radii (a .equal) in
+      rw (write-front e)
+      (file-reads-back (gaugeOf kind period origin) (pointsOf readings radii) (g .taken) (rw (← g .periodIs) p) (rw (← g .originIs) o) (pair-patterns readings radii h k) (rw n (a .most)))
+
+-- [12.7] what a file that is accepted reads as, written again, is that file
+pub call-written-again : (file : List ℕ) → AreBytes file → (g : Gauge) (readings radii room : List ℕ) → length readings ≡ length radii → length file ≤ length room
+    → ReadsAs file g (pointsOf readings radii)
+    → writeStem g readings radii room ≡ record { number = 0; written = length file; room = file ++ drop (length file) room }
+unfolding writeStem writeFields
+call-written-again file are g readings radii room same fits r =
+    let ps = pointsOf readings radii in
+    let row = opened-file file are g (r .0) (r .1) in
+    let is : stemFile g ps ≡ file = file-written-again file are g ps r in
+    let n : length file ≡ headerLength + pointLength * length readings = rw (← is, ← length-pairs readings radii same) (length-file g ps) in
+    let back = gauge-back g (row .taken) in
+    let a : Accepted (kindOf g) (periodOf g) (originOf g) (length readings) (length radii) (length room) =
+    record { equal = same; known = kind-small g; most = omega (arith, n, row .most, row-long file g (r .0) (fileCount file) row); gauge = back .1; fits = omega (arith, n) } in
+    go _ _ (judged _ _ _ _ _ _ a) (ap (λ (h : Gauge). stemFile h ps) (back .0) ∙ is)
+  where
+    go : (n : ℕ) (f : List ℕ) → n ≡ 0 → f ≡ file
+        → _≡_ {A = Written} (record { number = n; written = cond (eqb n 0) (length f) 0; room = cond (eqb n 0) (f ++ drop (length f) room) room })
+        (record { number = 0; written = length file; room = file ++ drop (length file) room })
+    go n f e s = rw (e, s)
+
+-- [12.3] 12 and 15 are for just those gauges that the reader refuses in a file that is right but for them
+pub gauge-refused : (kind period origin : ℕ) (ps : List Point) → kind < 256 → period < 2 ^ 64 → origin < 2 ^ 64 → length ps ≤ pointLimit
+    → stemNumber (stem (header kind (length ps) period origin ++ pointBytes ps)) ≡ first (handing kind period origin)
+gauge-refused kind period origin ps k p o most =
+    let file = header kind (length ps) period origin ++ pointBytes ps in
+    let long : length file ≡ 26 + 16 * length ps = omega (arith, length-points ps) in
+    let kinds : loaded 1 5 file ≡ kind = of-bytes 1 kind ∙ mod-eq-of-lt k in
+    let counts : loaded 4 6 file ≡ length ps = of-bytes 4 (length ps) ∙ mod-eq-of-lt (lt-of-le-of-lt most (lit< tt)) in
+    let periods : loaded 8 10 file ≡ period = of-bytes 8 period ∙ mod-eq-of-lt p in
+    let origins : loaded 8 18 file ≡ origin = of-bytes 8 origin ∙ mod-eq-of-lt o in
+    file-number file ∙ go (length file) (loaded 1 5 file) (loaded 4 6 file) (loaded 8 10 file) (loaded 8 18 file) long kinds counts periods origins
+  where
+    go : (l a n b c : ℕ) → l ≡ 26 + 16 * length ps → a ≡ kind → n ≡ length ps → b ≡ period → c ≡ origin
+        → _≡_ {A = ℕ} (cond (ltb l 26) 14 (cond (ltb 1 a) 12 (cond (ltb 4000 n) 13 (cond (eqb l (26 + 16 * n)) (cond (goodFields a b c) 0 15) 14)))) (first (handing kind period origin))
+    go l a n b c long kinds counts periods origins =
+        rw (long, kinds, counts, periods, origins, le-ltb (26 + 16 * length ps) 26 (omega arith), le-ltb 4000 (length ps) most, eq-eqb (26 + 16 * length ps) (26 + 16 * length ps) refl)
+        (sym (handing-number kind period origin))
