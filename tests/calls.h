@@ -250,6 +250,25 @@ static inline struct reply call_stem_fold(uint32_t kind, uint64_t period, uint64
     return r;
 }
 
+/* What writing a stem file gave beside the bytes of the room, which the caller looks at. On a refusal the length is 0 here. */
+struct written {
+    uint8_t number;
+    size_t length;
+    int touched; /* what is lent for the length was written where it may not be */
+};
+
+static inline struct written call_stem_write(uint32_t kind, uint64_t period, uint64_t origin, const uint64_t *readings, size_t nreadings,
+                                             const uint64_t *radii, size_t nradii, uint8_t *room, size_t length) {
+    struct room written;
+    struct written r = {0, 0, 0};
+    void *w = lend(&written);
+    r.number = zk_stem_write(kind, period, origin, readings, nreadings, radii, nradii, room, length, (size_t *)w);
+    if (zk_is_answer(r.number))
+        memcpy(&r.length, w, sizeof r.length);
+    r.touched = !kept(&written, zk_is_answer(r.number) ? sizeof r.length : 0);
+    return r;
+}
+
 /* Whether a loop over `all` cases goes on. On a terminal it shows how far it is. */
 static inline int going(uint64_t done, uint64_t all) {
     int shown = (done % (all / 100 + 1) == 0 || done == all) && isatty(STDERR_FILENO);

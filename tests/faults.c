@@ -30,6 +30,8 @@ REAL(zk_fold64, const uint64_t *x, size_t nx, uint64_t *results, size_t nr, uint
      size_t *marked);
 REAL(zk_stem_open, const uint8_t *file, size_t length, uint32_t *kind, uint64_t *period, uint64_t *origin, size_t *start, size_t *count);
 REAL(zk_stem_fold, uint32_t kind, uint64_t period, uint64_t origin, uint64_t *reading);
+REAL(zk_stem_write, uint32_t kind, uint64_t period, uint64_t origin, const uint64_t *readings, size_t nreadings, const uint64_t *radii,
+     size_t nradii, uint8_t *room, size_t length, size_t *written);
 
 static int fault(const char *name) {
     static const char *asked;
@@ -54,6 +56,13 @@ static uint16_t x87_control(void) {
 }
 
 static const uint64_t sign64 = UINT64_C(0x8000000000000000), infinity64 = UINT64_C(0x7FF0000000000000);
+
+/* A double as the processor gives it back: flushed where the host says so, and a NaN made quiet. */
+static uint64_t by_the_processor(uint64_t pattern) {
+    volatile double product = zk_double_of_pattern(pattern), one = 1;
+    product *= one;
+    return zk_pattern_of_double(product);
+}
 
 uint8_t zk_rem16(uint16_t x, uint16_t y, uint32_t kind, uint16_t *value, uint32_t *quotient) {
     uint8_t number;
@@ -491,11 +500,8 @@ uint8_t zk_fold64(const uint64_t *x, size_t nx, uint64_t *results, size_t nr, ui
             quotients[i] = 0; /* bits of the first places alone */
         if (fault("fold-mark-is-negative") && quotients[i] == ZK_MARK)
             results[i] |= sign64; /* the processor's NaN, which is negative */
-        if (fault("fold-flushes-as-the-processor-does") && quotients[i] != ZK_MARK) {
-            volatile double product = zk_double_of_pattern(results[i]), one = 1;
-            product *= one;
-            results[i] = zk_pattern_of_double(product);
-        }
+        if (fault("fold-flushes-as-the-processor-does") && quotients[i] != ZK_MARK)
+            results[i] = by_the_processor(results[i]);
         if (fault("fold-zero-loses-its-sign") && quotients[i] != ZK_MARK && (results[i] & ~sign64) == 0)
             results[i] = 0; /* the sign of a zero */
     }
@@ -539,20 +545,16 @@ static int is_nan(uint64_t pattern) {
 }
 
 /* A period that is none, taken for one by the fault of its class. */
-static int period_let_through(uint64_t period) {
+static int period_let_through(uint64_t period, int zero, int minus_zero, int negative, int infinite, int quiet_nan, int signalling_nan) {
     const uint64_t quiet = UINT64_C(1) << 51;
-    return (fault("stem-open-zero-period") && period == 0) || (fault("stem-open-minus-zero-period") && period == sign64) ||
-           (fault("stem-open-negative-period") && period > sign64 && period < (sign64 | infinity64)) ||
-           (fault("stem-open-infinite-period") && (period & ~sign64) == infinity64) ||
-           (fault("stem-open-quiet-nan-period") && is_nan(period) && (period & quiet)) ||
-           (fault("stem-open-signalling-nan-period") && is_nan(period) && !(period & quiet));
+    return (zero && period == 0) || (minus_zero && period == sign64) ||
+           (negative && period > sign64 && period < (sign64 | infinity64)) || (infinite && (period & ~sign64) == infinity64) ||
+           (quiet_nan && is_nan(period) && (period & quiet)) || (signalling_nan && is_nan(period) && !(period & quiet));
 }
 
-static int origin_let_through(uint8_t kind, uint64_t origin) {
-    return (fault("stem-open-turn-has-an-origin") && kind == 0) ||
-           (fault("stem-open-turn-has-a-minus-zero") && kind == 0 && origin == sign64) ||
-           (fault("stem-open-infinite-origin") && kind == 1 && (origin & ~sign64) == infinity64) ||
-           (fault("stem-open-nan-origin") && kind == 1 && is_nan(origin));
+static int origin_let_through(uint32_t kind, uint64_t origin, int of_turn, int minus_zero_of_turn, int infinite, int nan) {
+    return (of_turn && kind == 0) || (minus_zero_of_turn && kind == 0 && origin == sign64) ||
+           (infinite && kind == 1 && (origin & ~sign64) == infinity64) || (nan && kind == 1 && is_nan(origin));
 }
 
 /* The header of a file with what a fault lets through made good, and the length that it then has. The points do not matter. */
@@ -568,9 +570,12 @@ static size_t made_good(uint8_t *file, size_t length) {
         file[4] = 0;
     if (fault("stem-open-kind-is-one-bit"))
         file[5] &= 1;
-    if (period_let_through(little(file + PERIOD, 8)))
+    if (period_let_through(little(file + PERIOD, 8), fault("stem-open-zero-period"), fault("stem-open-minus-zero-period"),
+                           fault("stem-open-negative-period"), fault("stem-open-infinite-period"), fault("stem-open-quiet-nan-period"),
+                           fault("stem-open-signalling-nan-period")))
         put(file + PERIOD, 1, 8);
-    if (origin_let_through(file[5], little(file + ORIGIN, 8)))
+    if (origin_let_through(file[5], little(file + ORIGIN, 8), fault("stem-open-turn-has-an-origin"),
+                           fault("stem-open-turn-has-a-minus-zero"), fault("stem-open-infinite-origin"), fault("stem-open-nan-origin")))
         put(file + ORIGIN, 0, 8);
     if (fault("stem-open-count-believed") && count <= 4000)
         return (size_t)asked;
@@ -776,5 +781,259 @@ uint8_t zk_stem_fold(uint32_t kind, uint64_t period, uint64_t origin, uint64_t *
         *reading = 0;
     if (fault("stem-fold-writes-the-radius"))
         reading[1] = 0;
+    return number;
+}
+
+/* ---- writing stem files */
+
+/* What is asked of the writer. */
+struct task {
+    uint32_t kind;
+    uint64_t period, origin;
+    const uint64_t *readings, *radii;
+    size_t nreadings, nradii;
+    uint8_t *room;
+    size_t length;
+};
+
+static uint8_t write_to(uint8_t *room, size_t length, const struct task *t, size_t *written) {
+    return real_zk_stem_write(t->kind, t->period, t->origin, t->readings, t->nreadings, t->radii, t->nradii, room, length, written);
+}
+
+static size_t file_length(const struct task *t) {
+    return 26 + 16 * t->nreadings;
+}
+
+/* Lengths and kinds as a fault takes them. */
+static void cut_numbers(struct task *t) {
+    size_t shorter = t->nreadings < t->nradii ? t->nreadings : t->nradii;
+    int wraps_in_32 = t->nreadings == t->nradii && t->nreadings >> 28 != 0 && (uint32_t)file_length(t) <= t->length;
+    int wraps_in_64 = t->nreadings == t->nradii && t->nreadings >> 60 != 0 && file_length(t) <= t->length;
+    if (fault("stem-write-shorter-list-taken"))
+        t->nreadings = t->nradii = shorter;
+    if (fault("stem-write-lists-compared-in-32-bits") && (uint32_t)t->nreadings == (uint32_t)t->nradii)
+        t->nreadings = t->nradii = shorter;
+    if (fault("stem-write-count-cut-to-16-bits"))
+        t->nreadings &= 65535, t->nradii &= 65535;
+    if (fault("stem-write-count-cut-to-32-bits"))
+        t->nreadings = (uint32_t)t->nreadings, t->nradii = (uint32_t)t->nradii;
+    if ((fault("stem-write-product-of-32-bits") && wraps_in_32) || (fault("stem-write-product-of-64-bits") && wraps_in_64))
+        t->nreadings = t->nradii = 0; /* the room is compared, and not the count */
+    if (fault("stem-write-room-cut-to-32-bits"))
+        t->length = (uint32_t)t->length;
+    if (fault("stem-write-kind-cut-to-a-byte"))
+        t->kind &= 255;
+    if (fault("stem-write-kind-cut-to-24-bits"))
+        t->kind &= 0xFFFFFF;
+}
+
+/* A gauge that a fault lets through is made good, and written over the good one afterwards. */
+static void make_gauge_good(struct task *t) {
+    if (period_let_through(t->period, fault("stem-write-zero-period"), fault("stem-write-minus-zero-period"),
+                           fault("stem-write-negative-period"), fault("stem-write-infinite-period"), fault("stem-write-quiet-nan-period"),
+                           fault("stem-write-signalling-nan-period")))
+        t->period = 1;
+    if (origin_let_through(t->kind, t->origin, fault("stem-write-turn-has-an-origin") || fault("stem-write-turn-origin-left-out"),
+                           fault("stem-write-turn-has-a-minus-zero"), fault("stem-write-infinite-origin"),
+                           fault("stem-write-nan-origin")))
+        t->origin = 0;
+}
+
+/* What is read that should not be. */
+static void read_lists(const struct task *t) {
+    const volatile uint64_t *readings = t->readings, *radii = t->radii;
+    const volatile uint8_t *room = t->room;
+    if (fault("stem-write-reads-a-reading-more"))
+        (void)readings[t->nreadings];
+    if (fault("stem-write-reads-a-radius-more"))
+        (void)radii[t->nradii];
+    if (fault("stem-write-reads-a-reading-before"))
+        (void)readings[-1];
+    if (fault("stem-write-reads-a-radius-before"))
+        (void)radii[-1];
+    if (fault("stem-write-reads-a-radius-for-each-reading") && t->nreadings > t->nradii)
+        (void)radii[t->nreadings - 1];
+    if (fault("stem-write-reads-the-last-of-any-count") && t->nreadings > 4000)
+        (void)readings[t->nreadings - 1];
+    if (fault("stem-write-reads-behind-the-room"))
+        (void)room[t->length];
+}
+
+/* Whether a call that is to be answered with `number` gets another one; it then writes nothing. */
+static int told_otherwise(const struct task *t, uint8_t *number) {
+    size_t none;
+    int many = t->nreadings > 4000, is_short = t->length < file_length(t);
+    int bad_gauge = real_zk_stem_write(t->kind, t->period, t->origin, t->readings, 0, t->radii, 0, t->room, 0, &none) == ZK_STEM_GAUGE;
+    uint8_t before = *number;
+    if (before == ZK_BAD_LENGTH && ((fault("stem-write-kind-before-lists") && t->kind > 1)))
+        *number = ZK_STEM_KIND;
+    if (before == ZK_BAD_LENGTH && fault("stem-write-count-before-lists") && many)
+        *number = ZK_STEM_COUNT;
+    if (before == ZK_STEM_KIND && fault("stem-write-count-before-kind") && many)
+        *number = ZK_STEM_COUNT;
+    if (before == ZK_STEM_COUNT && fault("stem-write-gauge-before-count") && bad_gauge)
+        *number = ZK_STEM_GAUGE;
+    if (before == ZK_STEM_COUNT && fault("stem-write-room-before-count") && is_short)
+        *number = ZK_STEM_ROOM;
+    if (before == ZK_STEM_GAUGE && fault("stem-write-room-before-gauge") && is_short)
+        *number = ZK_STEM_ROOM;
+    if (fault("stem-write-asks-for-memory") && !memory_for(t->nreadings))
+        *number = ZK_STEM_ROOM;
+    if (fault("stem-write-period-compared-by-the-processor") && (before == 0 || before == ZK_STEM_GAUGE) && !above_zero(t->period))
+        *number = ZK_STEM_GAUGE;
+    if (before != ZK_FINISHED)
+        return *number != before;
+    if ((fault("stem-write-most-is-3999") && t->nreadings == 4000) || (fault("stem-write-no-points-refused") && t->nreadings == 0))
+        *number = ZK_STEM_COUNT;
+    if (fault("stem-write-room-of-a-byte-more-asked") && t->length == file_length(t))
+        *number = ZK_STEM_ROOM;
+    if ((fault("stem-write-some-denormals-refused") && t->period >> 33 != 0 && t->period >> 51 == 0) ||
+        (fault("stem-write-negative-radius-refused") && t->nradii > 0 && t->radii[0] >> 63))
+        *number = ZK_STEM_GAUGE;
+    return *number != before;
+}
+
+/* What a refusal writes. */
+static void write_all_the_same(const struct task *t, uint8_t number, size_t *written) {
+    size_t none;
+    if (fault("stem-write-refusal-writes-the-length") && number == ZK_STEM_ROOM)
+        *written = file_length(t);
+    if (fault("stem-write-header-before-the-room-is-judged") && number == ZK_STEM_ROOM && t->length > 25)
+        real_zk_stem_write(t->kind, t->period, t->origin, t->readings, 0, t->radii, 0, t->room, 26, &none);
+    if (fault("stem-write-refusal-wipes-the-room") && number == ZK_STEM_GAUGE)
+        memset(t->room, 0, t->length);
+    if (fault("stem-write-unequal-lists-written-first") && number == ZK_BAD_LENGTH && t->length > 25)
+        memcpy(t->room, "STM", 3);
+}
+
+static uint64_t spoilt(uint64_t pattern, int made_quiet) {
+    if (made_quiet && is_nan(pattern))
+        return pattern | UINT64_C(1) << 51;
+    if (fault("stem-write-house-nan") && is_nan(pattern))
+        return ZK_HOUSE_NAN64;
+    if (fault("stem-write-nan-loses-its-sign") && is_nan(pattern))
+        return pattern & ~sign64;
+    if (fault("stem-write-denormals-flushed") && (pattern & infinity64) == 0)
+        return pattern & sign64;
+    if (fault("stem-write-zero-loses-its-sign") && pattern == sign64)
+        return 0;
+    if (fault("stem-write-flushes-as-the-processor-does"))
+        return by_the_processor(pattern);
+    return pattern;
+}
+
+static void spoil_points(const struct task *t) {
+    size_t n = t->nreadings, i;
+    for (i = 0; i < n; i++) {
+        uint8_t *point = t->room + 26 + 16 * i;
+        uint64_t reading = spoilt(t->readings[i], fault("stem-write-quiet-reading")), radius = spoilt(t->radii[i], fault("stem-write-quiet-radius"));
+        if (reading != t->readings[i])
+            put(point, reading, 8);
+        if (radius != t->radii[i])
+            put(point + 8, radius, 8);
+        if (fault("stem-write-radius-before-reading"))
+            put(point, radius, 8), put(point + 8, reading, 8);
+        if (fault("stem-write-list-after-list")) {
+            put(t->room + 26 + 8 * i, reading, 8);
+            put(t->room + 26 + 8 * (n + i), radius, 8);
+        }
+    }
+}
+
+/* What is done to a written file; `before` has the last bytes of its place as they were, and its header. */
+static void spoil_file(const struct task *t, const uint8_t *header, const uint8_t *last_point) {
+    static uint64_t period = 1;
+    size_t n = t->nreadings;
+    uint8_t *room = t->room, *end = room + file_length(t);
+    if (fault("stem-write-version-of-one-byte"))
+        room[4] = header[4];
+    if (fault("stem-write-count-of-two-bytes"))
+        memcpy(room + 8, header + 8, 2);
+    if (fault("stem-write-count-big-endian"))
+        put(room + 6, n >> 8 << 16 | n << 24, 4);
+    if (fault("stem-write-period-and-origin-exchanged"))
+        put(room + PERIOD, t->origin, 8), put(room + ORIGIN, t->period, 8);
+    if (fault("stem-write-origin-loses-its-sign"))
+        put(room + ORIGIN, t->origin & ~sign64, 8);
+    if (fault("stem-write-period-of-the-call-before")) {
+        put(room + PERIOD, period, 8);
+        period = t->period;
+    }
+    if (fault("stem-write-last-point-missing") && n > 0)
+        memcpy(end - 16, last_point, 16);
+    if (fault("stem-write-last-radius-missing") && n > 0)
+        memcpy(end - 8, last_point + 8, 8);
+    if (fault("stem-write-a-byte-more") && t->length > file_length(t))
+        *end = 0;
+    if (fault("stem-write-rest-cleared"))
+        memset(end, 0, t->length - file_length(t));
+    if (fault("stem-write-writes-behind-the-room"))
+        room[t->length] = 0;
+    if (fault("stem-write-writes-before-the-room"))
+        room[-1] = 0;
+    if (fault("stem-write-readings-written") && n > 0)
+        ((uint64_t *)t->readings)[0] ^= sign64;
+    if (fault("stem-write-radii-written") && n > 0)
+        ((uint64_t *)t->radii)[n - 1] ^= sign64;
+}
+
+/* A file that is too long for its limit or for the room by a little, written as far as it goes; 0 returned if there is none. */
+static int written_too_long(const struct task *t, uint8_t number, uint8_t *copy, size_t *written) {
+    struct task most = *t;
+    if (fault("stem-write-most-is-4001") && number == ZK_STEM_COUNT && t->nreadings == 4001 && t->length >= file_length(t)) {
+        most.nreadings = most.nradii = 4000;
+        if (write_to(t->room, t->length, &most, written) != ZK_FINISHED)
+            return 0;
+        put(t->room + 6, 4001, 4);
+        put(t->room + *written, t->readings[4000], 8);
+        put(t->room + *written + 8, t->radii[4000], 8);
+        *written += 16;
+        return 1;
+    }
+    if (!fault("stem-write-room-of-a-byte-less") || number != ZK_STEM_ROOM || t->length + 1 != file_length(t))
+        return 0;
+    write_to(copy, COPIED, t, written);
+    memcpy(t->room, copy, t->length);
+    return 1;
+}
+
+uint8_t zk_stem_write(uint32_t kind, uint64_t period, uint64_t origin, const uint64_t *readings, size_t nreadings, const uint64_t *radii,
+                      size_t nradii, uint8_t *room, size_t length, size_t *written) {
+    static uint8_t copy[COPIED];
+    const struct task lent = {kind, period, origin, readings, radii, nreadings, nradii, room, length};
+    struct task t = lent;
+    size_t none;
+    uint8_t number;
+    read_lists(&lent);
+    if (fault("stem-write-keeps-memory"))
+        memory = malloc(16);
+    cut_numbers(&t);
+    make_gauge_good(&t);
+    number = write_to(copy, t.length < COPIED ? t.length : COPIED, &t, &none);
+    if (told_otherwise(&t, &number))
+        return number;
+    if (written_too_long(&t, number, copy, written))
+        return ZK_FINISHED;
+    if (number != ZK_FINISHED) {
+        write_all_the_same(&t, number, written);
+        return write_to(room, t.length, &t, written);
+    }
+    memcpy(copy, room, file_length(&t));
+    write_to(room, t.length, &t, written);
+    if (t.period != period)
+        put(room + PERIOD, period, 8);
+    if (t.origin != origin && !fault("stem-write-turn-origin-left-out"))
+        put(room + ORIGIN, origin, 8);
+    t.length = length;
+    spoil_points(&t);
+    spoil_file(&t, copy, copy + file_length(&t) - 16);
+    if (fault("stem-write-length-one-too-many"))
+        *written += 1;
+    if (fault("stem-write-length-without-the-header"))
+        *written -= 26;
+    if (fault("stem-write-length-of-the-room"))
+        *written = length;
+    if (fault("stem-write-writes-behind-the-length"))
+        written[1] = 0;
     return number;
 }

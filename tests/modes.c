@@ -2,7 +2,7 @@
  * Every exported function under other floating-point environments: each rounding mode, denormals flushed and taken for zero, other
  * precisions and roundings of the x87 unit, then all of them once more with exceptions unmasked. The answers are those that the default
  * environment gave before, nothing traps, the modes are left as they were, and no flag is raised. The denormal-operand exception is left to
- * zk_stem_open and zk_stem_fold, of which the header says that they may set it off. x86-64 only.
+ * the functions of stem files, of which the header says that they may set it off. x86-64 only.
  *
  *   modes [QUESTIONS [SEED]]
  */
@@ -24,19 +24,25 @@ int main(void) {
 
 /* ---- questions and answers */
 
-enum { REM, STEP, RUN, SCALE, SPLIT, FOLD, OPEN, STEM_FOLD, OPERATIONS };
+enum { REM, STEP, RUN, SCALE, SPLIT, FOLD, OPEN, STEM_FOLD, STEM_WRITE, OPERATIONS };
 
-static const char *const operation_names[OPERATIONS] = {"remainder", "step", "run", "scaling", "split", "list", "stem file", "stem point"};
+static const char *const operation_names[OPERATIONS] = {"remainder", "step",      "run",        "scaling",     "split",
+                                                        "list",      "stem file", "stem point", "written file"};
 
-enum { PLACES_OF_LIST = 4, FILE_LENGTH = ZK_STEM_HEADER + ZK_STEM_POINT };
+enum { PLACES_OF_LIST = 4, FILE_LENGTH = ZK_STEM_HEADER + ZK_STEM_POINT, LONGEST_ROOM = FILE_LENGTH + 8, NUMBERS = ZK_STEM_ROOM + 1 };
+
+static int is_of_stems(int operation) {
+    return operation >= OPEN;
+}
 
 struct question {
     int operation, format;
     struct pattern x, y;
     uint32_t kind, size, budget;
     int32_t power;
-    size_t length; /* of the block */
-    uint64_t list[PLACES_OF_LIST]; /* dividends; or period, origin and reading */
+    size_t length; /* of the block or the room */
+    size_t count, other; /* of the lists that are to be written */
+    uint64_t list[PLACES_OF_LIST]; /* dividends; or period, origin, reading and radius */
     uint8_t file[FILE_LENGTH];
 };
 
@@ -68,6 +74,18 @@ static void ask_file(const struct question *q, struct answer *a) {
     memcpy(a->values, values, sizeof values);
 }
 
+/* One point is written, or there are too many. */
+static void ask_writer(const struct question *q, struct answer *a) {
+    static const uint64_t many[ZK_STEM_MOST + 1];
+    const uint64_t *readings = q->count == 1 ? q->list + 2 : many, *radii = q->count == 1 ? q->list + 3 : many;
+    uint8_t room[LONGEST_ROOM] = {0};
+    struct written w = call_stem_write(q->kind, q->list[0], q->list[1], readings, q->count, radii, q->other, room, q->length);
+    a->number = w.number;
+    a->touched = (uint64_t)w.touched;
+    memcpy(a->values, room, sizeof room);
+    a->values[7] = w.length;
+}
+
 static void ask(const struct question *q, struct answer *a) {
     memset(a, 0, sizeof *a);
     switch (q->operation) {
@@ -78,7 +96,8 @@ static void ask(const struct question *q, struct answer *a) {
     case SPLIT: answer_of_reply(a, call_split(q->format, q->x)); break;
     case FOLD: ask_list(q, a); break;
     case OPEN: ask_file(q, a); break;
-    default: answer_of_reply(a, call_stem_fold(q->kind, q->list[0], q->list[1], q->list[2]));
+    case STEM_FOLD: answer_of_reply(a, call_stem_fold(q->kind, q->list[0], q->list[1], q->list[2])); break;
+    default: ask_writer(q, a);
     }
 }
 
@@ -86,16 +105,6 @@ static void put(uint8_t *bytes, uint64_t number) {
     int i;
     for (i = 0; i < 8; i++)
         bytes[i] = (uint8_t)(number >> 8 * i);
-}
-
-/* Denormals one time in four: what is flushed or taken for zero is seen on them alone. */
-static uint64_t any_binary64(uint64_t *state) {
-    switch (below(state, 8)) {
-    case 0:
-    case 1: return draw(state) >> between(state, 12, 63) | draw(state) << 63;
-    case 2: return any_special(BINARY64, state).bits;
-    default: return any_pair(BINARY64, state).x.bits;
-    }
 }
 
 /* Period, origin and reading of a file or a point. Half of the readings are near the origin: their difference may be denormal. */
@@ -115,6 +124,16 @@ static void fill_gauge(struct question *q, uint64_t *state) {
         q->file[below(state, 10)] ^= (uint8_t)(1 << below(state, 8));
 }
 
+/* One time in twenty each there are too many points, the lists are unequal, or the room is a byte short or longer; some kinds are none. */
+static void fill_task(struct question *q, uint64_t *state) {
+    static const size_t lengths[] = {FILE_LENGTH - 1, FILE_LENGTH + 1, LONGEST_ROOM};
+    int other_room = below(state, 20);
+    q->kind = q->file[5];
+    q->count = below(state, 20) ? 1 : ZK_STEM_MOST + 1;
+    q->other = below(state, 20) ? q->count : 0;
+    q->length = other_room < 3 ? lengths[other_room] : FILE_LENGTH;
+}
+
 static struct question any_question(int operation, uint64_t *state) {
     struct question q;
     struct pair p;
@@ -132,8 +151,10 @@ static struct question any_question(int operation, uint64_t *state) {
     q.power = below(state, 2) ? between(state, -80, 80) : between(state, -2 * formats[q.format].bias, 2 * formats[q.format].bias);
     for (i = 0; i < PLACES_OF_LIST; i++)
         q.list[i] = any_binary64(state);
-    if (operation == OPEN || operation == STEM_FOLD)
+    if (is_of_stems(operation))
         fill_gauge(&q, state);
+    if (operation == STEM_WRITE)
+        fill_task(&q, state);
     return q;
 }
 
@@ -177,7 +198,7 @@ static struct environment present(void) {
 
 /* The exception of denormal operands is the one that the header allows, to the calls that hold a double: for them it stays masked. */
 static unsigned allowed(const struct question *q) {
-    return q->operation == OPEN || q->operation == STEM_FOLD ? DENORMAL : 0;
+    return is_of_stems(q->operation) ? DENORMAL : 0;
 }
 
 static sigjmp_buf trapped;
@@ -199,9 +220,9 @@ static void tell(const char *what, struct environment e, const struct question *
     if (!differs())
         return;
     printf("%s: %s with MXCSR %04X and control word %04X, ", operation_names[q->operation], what, e.mxcsr, (unsigned)e.control);
-    if (q->operation == OPEN || q->operation == STEM_FOLD)
-        printf("kind %u period %016" PRIX64 " origin %016" PRIX64 " reading %016" PRIX64 "\n", (unsigned)q->kind, q->list[0], q->list[1],
-               q->list[2]);
+    if (is_of_stems(q->operation))
+        printf("kind %u period %016" PRIX64 " origin %016" PRIX64 " reading %016" PRIX64 " radius %016" PRIX64 "\n", (unsigned)q->kind,
+               q->list[0], q->list[1], q->list[2], q->list[3]);
     else
         printf("%s %s by %s\n", formats[q->format].name, text(q->format, q->x), text(q->format, q->y));
 }
@@ -235,19 +256,20 @@ static void look_at_flags(struct environment usual, const struct question *q) {
 
 /* A number that no question has would leave a refusal untried: it counts as a difference. */
 static void print_numbers(const struct answer *answers, uint64_t cases) {
-    uint64_t seen[16] = {0}, i;
+    uint64_t seen[NUMBERS] = {0}, i;
     for (i = 0; i < cases; i++)
-        seen[answers[i].number & 15]++;
+        if (answers[i].number < NUMBERS)
+            seen[answers[i].number]++;
     printf("%" PRIu64 " questions:", cases);
-    for (i = 0; i < 16; i++) {
-        printf(" %u: %" PRIu64 "%s", (unsigned)i, seen[i], i < 15 ? "," : "\n");
+    for (i = 0; i < NUMBERS; i++) {
+        printf(" %u: %" PRIu64 "%s", (unsigned)i, seen[i], i < NUMBERS - 1 ? "," : "\n");
         if (seen[i] == 0 && differs())
             printf(" number %u has no question,", (unsigned)i);
     }
 }
 
 int main(int argc, char **argv) {
-    uint64_t cases = pairs_asked(argc, argv, 16000), state = seed_asked(argc, argv), i;
+    uint64_t cases = pairs_asked(argc, argv, 18000), state = seed_asked(argc, argv), i;
     struct question *questions = (struct question *)malloc(cases * sizeof *questions);
     struct answer *answers = (struct answer *)malloc(cases * sizeof *answers);
     struct environment usual = present();

@@ -278,6 +278,18 @@ static inline struct pair any_pair(int f, uint64_t *state) {
     }
 }
 
+/* Denormals one time in four: what is flushed or taken for zero is seen on them alone. */
+static inline uint64_t any_binary64(uint64_t *state) {
+    int shift = between(state, 12, 63);
+    uint64_t bits = draw(state);
+    switch (below(state, 8)) {
+    case 0:
+    case 1: return bits >> shift | bits << 63;
+    case 2: return any_special(BINARY64, state).bits;
+    default: return any_pair(BINARY64, state).x.bits;
+    }
+}
+
 /* An x87 pattern that the scope calls unsupported. */
 static inline int is_unsupported(struct pattern x) {
     return (x.word & 32767) != 0 && x.bits >> 63 == 0;

@@ -5,47 +5,18 @@
  *
  * Every file is judged twice, with two fillings of what is lent for the outputs, so that no byte is right by chance, and in two places: an
  * unreadable page begins behind its last byte, then one ends before its first. A byte that is read outside of the file is seen there,
- * whatever reads it. With the address sanitizer (make test-sanitized) a file is a block of the heap of its length: the archive is not
- * instrumented, so that what the library reads is not seen, but what a host reads is, which takes the points from where it is told to.
+ * whatever reads it.
  */
 #define _GNU_SOURCE
-#include "operands.h"
+#include "stems.h"
 
-#include <fcntl.h>
-#include <malloc.h>
 #include <math.h>
-#include <setjmp.h>
-#include <signal.h>
-#include <sys/mman.h>
-#include <sys/resource.h>
 
-enum { HEADER = 26, POINT = 16, MOST = 4000, LONGEST = HEADER + POINT * (MOST + 101) };
+static const uint64_t most64 = UINT64_C(0x7FEFFFFFFFFFFFFF);
 
-static const uint64_t sign64 = UINT64_C(1) << 63, most64 = UINT64_C(0x7FEFFFFFFFFFFFFF);
-static const uint64_t turn360 = UINT64_C(0x4076800000000000), three = UINT64_C(0x4008000000000000);
-
-static const char *part; /* what is being tried */
 static uint64_t files, accepted, numbers[16];
 
 /* ---- a second judge */
-
-static uint64_t little(const uint8_t *bytes, int n) {
-    uint64_t number = 0, place = 1;
-    int i;
-    for (i = 0; i < n; i++, place *= 256)
-        number += bytes[i] * place;
-    return number;
-}
-
-static int all_zero(const uint8_t *bytes) {
-    static const uint8_t zeros[8];
-    return memcmp(bytes, zeros, 8) == 0;
-}
-
-/* the exponent's eleven bits, seven in the last byte and four in the one before, are not all ones */
-static int is_finite(const uint8_t *bytes) {
-    return (bytes[7] & 0x7F) != 0x7F || bytes[6] < 0xF0;
-}
 
 static uint8_t first_refusal(const uint8_t *file, size_t length) {
     if (length < HEADER)
@@ -60,9 +31,7 @@ static uint8_t first_refusal(const uint8_t *file, size_t length) {
         return 13;
     if (length != HEADER + POINT * little(file + 6, 4))
         return 14;
-    if (!is_finite(file + 10) || file[17] >= 0x80 || all_zero(file + 10))
-        return 15;
-    return (file[5] == 0 ? all_zero(file + 18) : is_finite(file + 18)) ? 0 : 15;
+    return has_gauge(file) ? 0 : 15;
 }
 
 static struct opened judge(const uint8_t *file, size_t length) {
@@ -104,88 +73,40 @@ static int points_differ(const uint8_t *lent, struct opened got, const uint8_t *
     return memcmp(points, file + HEADER, POINT * want.count) != 0;
 }
 
-/* The file as it lies at `lent`, a copy of `file`. */
-static void compare_lent(const uint8_t *lent, const uint8_t *file, size_t length, struct opened want) {
-    struct opened got = call_open(lent, length);
+/* A file as it lies at `lent`, a copy of `file`. */
+struct trial {
+    const uint8_t *lent, *file;
+    size_t length;
+    struct opened want;
+};
+
+static void compare_lent(const void *trial) {
+    const struct trial *t = (const struct trial *)trial;
+    struct opened got = call_open(t->lent, t->length), want = t->want;
     int right = got.number == want.number && got.kind == want.kind && got.period == want.period && got.origin == want.origin &&
                 got.start == want.start && got.count == want.count;
-    if (!right && tell(got.number == want.number ? "what is written" : "the number", file, length)) {
+    if (!right && tell(got.number == want.number ? "what is written" : "the number", t->file, t->length)) {
         print_opened("zukemoriha", got);
         print_opened("expected", want);
     }
     if (got.touched)
-        tell("an output is touched", file, length);
-    if (memcmp(lent, file, length) != 0)
-        tell("the file is changed", file, length);
-    if (got.number == 0 && points_differ(lent, got, file, want))
-        tell("other points", file, length);
+        tell("an output is touched", t->file, t->length);
+    if (memcmp(t->lent, t->file, t->length) != 0)
+        tell("the file is changed", t->file, t->length);
+    if (got.number == 0 && points_differ(t->lent, got, t->file, want))
+        tell("other points", t->file, t->length);
 }
 
-#ifdef __SANITIZE_ADDRESS__
-
-/* The search for leaks at the end asks for rights that not every container gives, and there is nothing to find. */
-const char *__asan_default_options(void);
-const char *__asan_default_options(void) {
-    return "detect_leaks=0";
-}
-
-static void make_walls(void) {}
+static struct area between_walls;
 
 static void compare_placed(const uint8_t *file, size_t length, struct opened want) {
-    uint8_t *lent = (uint8_t *)malloc(length);
-    memcpy(lent, file, length);
-    compare_lent(lent, file, length, want);
-    filling ^= 0xFF;
-    compare_lent(lent, file, length, want);
-    free(lent);
-}
-
-#else
-
-static uint8_t *first_byte, *wall; /* a page ends before the one, another begins at the other; neither can be read */
-static sigjmp_buf outside;
-static volatile sig_atomic_t awaited; /* a file is being judged; at any other time the program ends as without a handler */
-
-static void on_outside(int number) {
-    if (!awaited)
-        signal(number, SIG_DFL);
-    else
-        siglongjmp(outside, 1);
-}
-
-static void make_walls(void) {
-    size_t page = (size_t)sysconf(_SC_PAGESIZE), room = (LONGEST / page + 1) * page;
-    uint8_t *all = (uint8_t *)mmap(NULL, room + 2 * page, PROT_NONE, MAP_PRIVATE | MAP_ANONYMOUS, -1, 0);
-    struct sigaction action;
-    memset(&action, 0, sizeof action);
-    action.sa_handler = on_outside;
-    action.sa_flags = SA_NODEFER;
-    if (all == MAP_FAILED || mprotect(all + page, room, PROT_READ | PROT_WRITE) || sigaction(SIGSEGV, &action, NULL) ||
-        sigaction(SIGBUS, &action, NULL)) {
-        perror("stems");
-        exit(2);
+    int end;
+    for (end = 0; end < ENDS; end++, filling ^= 0xFF) {
+        struct trial t = {lend_at(&between_walls, end, file, length), file, length, want};
+        if (!stays_inside(compare_lent, &t))
+            tell("a byte outside of the file is read", file, length);
     }
-    first_byte = all + page;
-    wall = first_byte + room;
 }
-
-static void compare_at(uint8_t *lent, const uint8_t *file, size_t length, struct opened want) {
-    memcpy(lent, file, length);
-    awaited = 1;
-    if (sigsetjmp(outside, 0) == 0)
-        compare_lent(lent, file, length, want);
-    else
-        tell("a byte outside of the file is read", file, length);
-    awaited = 0;
-}
-
-static void compare_placed(const uint8_t *file, size_t length, struct opened want) {
-    compare_at(wall - length, file, length, want);
-    filling ^= 0xFF;
-    compare_at(first_byte, file, length, want);
-}
-
-#endif
 
 static void compare_file(const uint8_t *file, size_t length) {
     struct opened want = judge(file, length);
@@ -197,27 +118,6 @@ static void compare_file(const uint8_t *file, size_t length) {
 
 /* ---- files */
 
-static uint8_t room[LONGEST];
-
-static void put(uint8_t *bytes, uint64_t number, int n) {
-    for (; n > 0; n--, number >>= 8)
-        *bytes++ = (uint8_t)number;
-}
-
-/* A file in the room, and its length if the count were what it says. */
-static size_t make_file(uint32_t kind, uint32_t count, uint64_t period, uint64_t origin) {
-    memcpy(room, "STM\1", 5);
-    put(room + 5, kind, 1);
-    put(room + 6, count, 4);
-    put(room + 10, period, 8);
-    put(room + 18, origin, 8);
-    return HEADER + POINT * (size_t)count;
-}
-
-static size_t good_file(uint32_t kind, uint32_t count) {
-    return make_file(kind, count, kind ? three : turn360, kind ? turn360 | sign64 : 0);
-}
-
 static void good_files(void) {
     static const uint32_t counts[] = {0, 1, 2, 3999, 4000};
     uint32_t kind;
@@ -227,7 +127,6 @@ static void good_files(void) {
             compare_file(room, good_file(kind, counts[i]));
 }
 
-/* Every byte of the header with every other value. */
 /* Files of many points are judged as those of few are: one byte of the header changed, all lengths right. */
 static void changed_bytes_of_many(void) {
     static const uint32_t counts[] = {8, 100, 1000, MOST - 1, MOST};
@@ -244,6 +143,7 @@ static void changed_bytes_of_many(void) {
                 }
 }
 
+/* Every byte of the header with every other value. */
 static void changed_bytes(void) {
     uint32_t kind;
     int byte, value;
@@ -281,18 +181,11 @@ static void counts_and_lengths(void) {
         }
 }
 
-/* Times 16, some of these are small numbers in 32 bits: the length that a wrapped product would ask for is there. */
-static const uint32_t far_counts[] = {
-    4001,       4096,       65535,      65536,      65537,      69536,      0x01000000, 0x07FFFFFF, 0x08000000, 0x0FFFFFFE, 0x0FFFFFFF,
-    0x10000000, 0x10000001, 0x10000FA0, 0x10000FA1, 0x20000000, 0x20000001, 0x7FFFFFFF, 0x80000000, 0x80000001, 0x80000FA0, 0xF0000000,
-    0xF0000FA0, 0xFFFFF05F, 0xFFFFF060, 0xFFFFFFFD, 0xFFFFFFFE, 0xFFFFFFFF,
-};
-
 static void far_counts_files(void) {
     uint32_t kind;
     size_t i;
     for (kind = 0; kind < 2; kind++)
-        for (i = 0; i < sizeof far_counts / sizeof *far_counts; i++) {
+        for (i = 0; i < FAR_COUNTS; i++) {
             uint32_t wrapped = UINT32_C(26) + UINT32_C(16) * far_counts[i];
             good_file(kind, far_counts[i]);
             compare_file(room, HEADER);
@@ -302,28 +195,6 @@ static void far_counts_files(void) {
                 compare_file(room, wrapped);
         }
 }
-
-/* Every class of binary64, with either sign, and patterns that are another class with their bytes the other way round. */
-static const uint64_t classes[] = {
-    UINT64_C(0x0000000000000000), UINT64_C(0x8000000000000000), /* zeros */
-    UINT64_C(0x0000000000000001), UINT64_C(0x8000000000000001), /* denormals */
-    UINT64_C(0x000FFFFFFFFFFFFF), UINT64_C(0x800FFFFFFFFFFFFF),
-    UINT64_C(0x0010000000000000), UINT64_C(0x8010000000000000), /* normal numbers */
-    UINT64_C(0x3FF0000000000000), UINT64_C(0xBFF0000000000000),
-    UINT64_C(0x4076800000000000), UINT64_C(0xC076800000000000),
-    UINT64_C(0x7FEFFFFFFFFFFFFF), UINT64_C(0xFFEFFFFFFFFFFFFF),
-    UINT64_C(0x7FF0000000000000), UINT64_C(0xFFF0000000000000), /* infinities */
-    UINT64_C(0x7FF0000000000001), UINT64_C(0xFFF0000000000001), /* NaNs, signalling and quiet */
-    UINT64_C(0x7FF7FFFFFFFFFFFF), UINT64_C(0xFFF7FFFFFFFFFFFF),
-    UINT64_C(0x7FF8000000000000), UINT64_C(0xFFF8000000000000),
-    UINT64_C(0x7FFFFFFFFFFFFFFF), UINT64_C(0xFFFFFFFFFFFFFFFF),
-    UINT64_C(0x000000000000F07F), UINT64_C(0x000000000000F0FF), /* the other way round */
-    UINT64_C(0x0000000000000080), UINT64_C(0x0102030405060708),
-    UINT64_C(0x7FF0000000000080), UINT64_C(0x00000000FFFFFFFF), /* told by the lower half alone, or by the upper */
-    UINT64_C(0x0000000100000000), UINT64_C(0x7FE0000000000000),
-};
-
-enum { CLASSES = sizeof classes / sizeof *classes };
 
 static void gauges(void) {
     uint32_t kind;
@@ -358,42 +229,38 @@ static void faults_together(void) {
                         }
 }
 
+#ifdef __SANITIZE_ADDRESS__
+
+static void long_file(void) {}
+
+#else
+
 /* A length that only its upper bits tell from that of a good file. The bytes are never read, so that the system need not have them. */
+static const size_t far_length = ((size_t)1 << 32) + HEADER + POINT;
+
+static void compare_long(const void *file) {
+    struct opened got = call_open((const uint8_t *)file, far_length);
+    if (got.number != ZK_STEM_LENGTH)
+        tell("the number", room, HEADER);
+    if (got.touched)
+        tell("an output is touched", room, HEADER);
+}
+
 static void long_file(void) {
-#ifndef __SANITIZE_ADDRESS__
     size_t length = good_file(ZK_TURN, 1);
-    const size_t far = ((size_t)1 << 32) + length;
-    uint8_t *file = (uint8_t *)mmap(NULL, far, PROT_READ | PROT_WRITE, MAP_PRIVATE | MAP_ANONYMOUS | MAP_NORESERVE, -1, 0);
+    uint8_t *file = (uint8_t *)mmap(NULL, far_length, PROT_READ | PROT_WRITE, MAP_PRIVATE | MAP_ANONYMOUS | MAP_NORESERVE, -1, 0);
     if (file == MAP_FAILED) {
         printf("no room for a long file: not tried\n");
         return;
     }
     memcpy(file, room, length);
     files++;
-    awaited = 1;
-    if (sigsetjmp(outside, 0) != 0)
+    if (!stays_inside(compare_long, file))
         tell("a byte outside of the file is read", room, length);
-    else {
-        struct opened got = call_open(file, far);
-        if (got.number != ZK_STEM_LENGTH)
-            tell("the number", room, length);
-        if (got.touched)
-            tell("an output is touched", room, length);
-    }
-    awaited = 0;
-    munmap(file, far);
+    munmap(file, far_length);
+}
+
 #endif
-}
-
-static void begin(const char *name) {
-    part = name;
-    next_part();
-}
-
-static void try_part(const char *name, void (*run)(void)) {
-    begin(name);
-    run();
-}
 
 static void written_files(void) {
     try_part("a good file", good_files);
@@ -405,34 +272,6 @@ static void written_files(void) {
     try_part("a gauge", gauges);
     try_part("faults together", faults_together);
     try_part("a long file", long_file);
-}
-
-/* A good file of some points, or a few bits of one, or a few bytes, or its length changed; or bytes of no file. */
-static size_t random_file(uint64_t *state) {
-    size_t length = good_file((uint32_t)below(state, 2), (uint32_t)below(state, 6)), i;
-    int changes = between(state, 1, 4);
-    put(room + 10, below(state, 2) ? any_finite(BINARY64, state).bits & ~sign64 : any_bits(BINARY64, state).bits, 8);
-    if (room[5] == ZK_ROLLER)
-        put(room + 18, any_pair(BINARY64, state).x.bits, 8);
-    switch (below(state, 8)) {
-    case 0: return length;
-    case 1: return (size_t)below(state, 160);
-    case 2:
-        for (i = 0; i < length; i++)
-            room[i] = (uint8_t)draw(state);
-        return length;
-    case 3:
-        for (; changes > 0; changes--)
-            room[below(state, HEADER)] = (uint8_t)draw(state);
-        return length;
-    case 4:
-        put(room + 6, draw(state) >> between(state, 32, 63), 4);
-        return below(state, 2) ? length : HEADER + POINT * (size_t)(little(room + 6, 4) % (MOST + 100));
-    default:
-        for (; changes > 0; changes--)
-            room[below(state, HEADER)] ^= (uint8_t)(1 << below(state, 8));
-        return length;
-    }
 }
 
 static void random_files(uint64_t cases, uint64_t seed) {
@@ -665,58 +504,25 @@ static void whole_files(uint64_t cases, uint64_t seed) {
 
 /* ---- memory */
 
-#ifdef __SANITIZE_ADDRESS__
-
-static void little_memory(void) {}
-
-#else
-
-/* Pages that the process has, without asking for memory to find out. */
-static size_t pages_used(void) {
-    char text[64];
-    int file = open("/proc/self/statm", O_RDONLY);
-    ssize_t n = file < 0 ? 0 : read(file, text, sizeof text - 1);
-    if (file >= 0)
-        close(file);
-    text[n > 0 ? n : 0] = 0;
-    return (size_t)strtoul(text, NULL, 10);
-}
-
-static int memory_is_refused(size_t bytes) {
-    void *p = mmap(NULL, bytes, PROT_READ | PROT_WRITE, MAP_PRIVATE | MAP_ANONYMOUS, -1, 0);
-    if (p == MAP_FAILED)
-        return 1;
-    munmap(p, bytes);
-    return 0;
-}
-
-/* With no room for another 64 KiB, as many bytes as 4,096 points have, the largest counts get their numbers, and nothing is kept. */
-static void little_memory(void) {
-    struct rlimit before, limit;
-    size_t used = pages_used(), i;
-    struct mallinfo2 heap = mallinfo2();
-    getrlimit(RLIMIT_AS, &before);
-    limit = before;
-    limit.rlim_cur = (used + 4) * (size_t)sysconf(_SC_PAGESIZE);
-    setrlimit(RLIMIT_AS, &limit);
-    if (!memory_is_refused(65536))
-        printf("no limit of memory here: not tried\n");
+/* In little memory, the largest counts get their numbers, and nothing is kept. */
+static void largest_files(void) {
+    size_t i;
     for (i = 0; i < 100; i++) {
-        good_file(i & 1, far_counts[i % (sizeof far_counts / sizeof *far_counts)]);
+        good_file(i & 1, far_counts[i % FAR_COUNTS]);
         compare_file(room, HEADER);
         compare_file(room, HEADER + POINT * MOST);
         compare_file(room, good_file(i & 1, MOST - i % 2));
     }
-    if (pages_used() != used || mallinfo2().uordblks != heap.uordblks || mallinfo2().hblkhd != heap.hblkhd)
-        tell("the process has grown", room, HEADER);
-    setrlimit(RLIMIT_AS, &before);
 }
 
-#endif
+static void little_memory(void) {
+    if (grows_in_little_memory(largest_files))
+        tell("the process has grown", room, HEADER);
+}
 
 int main(int argc, char **argv) {
     uint64_t cases = pairs_asked(argc, argv, 1000000), seed = seed_asked(argc, argv), i;
-    make_walls();
+    between_walls = area_of(LONGEST);
     for (i = 0; i < LONGEST; i++)
         room[i] = (uint8_t)(i * 37 + i / 256);
     written_files();

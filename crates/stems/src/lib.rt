@@ -24,7 +24,7 @@ pub const POINT_LENGTH: usize = 16;
 // The most points that a file may declare.
 pub const POINT_LIMIT: u32 = 4000;
 
-const VERSION: u16 = 1;
+pub const VERSION: u16 = 1;
 
 // The numbers of refusals, in the order of the checks; the last is that of a bad gauge.
 const TOO_SHORT: u8 = 14;
@@ -35,7 +35,7 @@ const BAD_VERSION: u8 = 11;
 
 pub const BAD_KIND: u8 = 12;
 
-const BAD_COUNT: u8 = 13;
+pub const BAD_COUNT: u8 = 13;
 
 const BAD_LENGTH: u8 = 14;
 

@@ -33,6 +33,17 @@ pub trait Implementation: Sync {
     /// # Errors
     /// The number that refuses the gauge.
     fn fold_point(&self, gauge: Gauge, point: Point) -> Result<Point, u8>;
+    /// The stem file that is written to the front of a room of so many bytes.
+    ///
+    /// # Errors
+    /// The number that refuses it.
+    fn write(
+        &self,
+        gauge: Gauge,
+        readings: &[u64],
+        radii: &[u64],
+        room: usize,
+    ) -> Result<Vec<u8>, u8>;
 }
 
 /// The two that are compared, the library first.
@@ -41,8 +52,8 @@ pub type Pair<'a> = [&'a dyn Implementation; 2];
 /// The length that a block must have.
 pub const LENGTH: usize = zukemoriha::Block::LENGTH;
 
-/// No number of an implementation: a call wrote where it may not, or its block says another number
-/// than it returned.
+/// No number of an implementation: a call wrote where it may not, its block says another number
+/// than it returned, or it has written more than there is room for.
 pub const MISWROTE: u8 = 254;
 
 const BAD_LENGTH: u8 = 9;
@@ -110,5 +121,15 @@ impl Implementation for Second {
 
     fn fold_point(&self, gauge: Gauge, point: Point) -> Result<Point, u8> {
         stem::fold(gauge, point)
+    }
+
+    fn write(
+        &self,
+        gauge: Gauge,
+        readings: &[u64],
+        radii: &[u64],
+        room: usize,
+    ) -> Result<Vec<u8>, u8> {
+        stem::write(gauge, readings, radii, room)
     }
 }

@@ -20,11 +20,12 @@ pub mod published;
 pub mod sequence;
 pub mod stems;
 pub mod vectors;
+pub mod writes;
 
 pub use call::{Call, Implementation, Pair, Second, MISWROTE};
 pub use comparison::Comparison;
 pub use fields::read;
-pub use library::{lent, lent_lists, Library};
+pub use library::{lent, lent_length, lent_lists, lent_room, Library};
 pub use second::stem::{Gauge, Point, Stem};
 pub use second::{Answer, Folded, Format, Kind};
 

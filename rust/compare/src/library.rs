@@ -8,8 +8,10 @@ use std::ops::Range;
 use zukemoriha::{binary16, binary32, binary64, x87, Block, Refusal, X87};
 
 const FILLED: u8 = 0xA5;
-/// Filled bytes on either side of a block.
+/// Filled bytes on either side of a block or a room.
 const SIDE: usize = 16;
+/// What stands where a length goes, and beside it.
+const FILLED_LENGTH: usize = usize::from_ne_bytes([FILLED; 8]);
 
 /// Calls a function of the format's own module, on operands of its own type, and makes an answer
 /// of two fields of what it returns.
@@ -83,15 +85,32 @@ impl Implementation for Library {
     }
 
     fn fold_point(&self, gauge: Gauge, point: Point) -> Result<Point, u8> {
-        let (period, origin) = (gauge.period, gauge.origin);
-        let gauge = match (gauge.kind, origin) {
-            (TURN, 0) => zukemoriha::Gauge::Turn { period },
-            (ROLLER, _) => zukemoriha::Gauge::Roller { period, origin },
-            _ => panic!("not a gauge of the safe functions: {gauge:X?}"),
-        };
         let Point { reading, radius } = point;
-        let folded = gauge.fold(zukemoriha::Point { reading, radius });
+        let folded = safe(gauge).fold(zukemoriha::Point { reading, radius });
         folded.map(point_of).map_err(Refusal::number)
+    }
+
+    fn write(
+        &self,
+        gauge: Gauge,
+        readings: &[u64],
+        radii: &[u64],
+        room: usize,
+    ) -> Result<Vec<u8>, u8> {
+        lent_room(room, |bytes, room| {
+            let room = &mut bytes[room];
+            let written = zukemoriha::Stem::write(safe(gauge), readings, radii, room);
+            written.map_err(Refusal::number)
+        })
+    }
+}
+
+fn safe(gauge: Gauge) -> zukemoriha::Gauge {
+    let (period, origin) = (gauge.period, gauge.origin);
+    match (gauge.kind, origin) {
+        (TURN, 0) => zukemoriha::Gauge::Turn { period },
+        (ROLLER, _) => zukemoriha::Gauge::Roller { period, origin },
+        _ => panic!("not a gauge of the safe functions: {gauge:X?}"),
     }
 }
 
@@ -146,6 +165,50 @@ where
             quotients,
             marked,
         }),
+    }
+}
+
+/// What a call that is lent a room writes to its front. It gets the room among other bytes, and where
+/// it lies in them. All are filled, each otherwise than its neighbour, so that moved ones are seen.
+///
+/// # Errors
+/// The number that the call tells.
+pub fn lent_room<F>(length: usize, write: F) -> Result<Vec<u8>, u8>
+where
+    F: FnOnce(&mut [u8], Range<usize>) -> Result<usize, u8>,
+{
+    let filled: Vec<u8> = (0..SIDE + length + SIDE)
+        .map(|at| FILLED ^ at as u8)
+        .collect();
+    let mut bytes = filled.clone();
+    let written = write(&mut bytes, SIDE..SIDE + length);
+    let front = *written.as_ref().unwrap_or(&0);
+    if front > length {
+        return Err(MISWROTE);
+    }
+    let file = SIDE..SIDE + front;
+    let kept =
+        bytes[..file.start] == filled[..file.start] && bytes[file.end..] == filled[file.end..];
+    match written {
+        _ if !kept => Err(MISWROTE),
+        Err(number) => Err(number),
+        Ok(_) => Ok(bytes[file].to_vec()),
+    }
+}
+
+/// The length that a call writes which returns a number. It gets the place for it between two others.
+///
+/// # Errors
+/// The number that the call returns.
+pub fn lent_length<F>(call: F) -> Result<usize, u8>
+where
+    F: FnOnce(&mut [usize; 3]) -> u8,
+{
+    let mut places = [FILLED_LENGTH; 3];
+    match (call(&mut places), places) {
+        (0, [FILLED_LENGTH, length, FILLED_LENGTH]) => Ok(length),
+        (number, [FILLED_LENGTH, FILLED_LENGTH, FILLED_LENGTH]) => Err(number),
+        _ => Err(MISWROTE),
     }
 }
 

@@ -9,20 +9,25 @@ use second::stem::{Gauge, Point, ROLLER, TURN};
 use second::Format;
 
 /// Bytes before the points.
-const HEADER: usize = 26;
+pub(crate) const HEADER: usize = 26;
 /// The most points of a file.
-const MOST: u32 = 4000;
+pub(crate) const MOST: u32 = 4000;
 /// Bytes of a file that are written out where it is different.
-const SHOWN: usize = 64;
+pub(crate) const SHOWN: usize = 64;
 
 /// Every value of every byte of a header, lengths around the right one, every set of faults, as many
-/// points as may be, and so many drawn files. Returns also how often each number was told.
+/// points as may be, and so many drawn files.
+pub(crate) fn cases(drawn: u64) -> Vec<Vec<u8>> {
+    let mut draw = Draw(drawn);
+    let drawn: Vec<_> = (0..drawn).map(|_| drawn_file(&mut draw)).collect();
+    [bytes(), lengths(), faults(), counts(), drawn].concat()
+}
+
+/// All of these files, so many of them drawn. Returns also how often each number was told.
 pub fn files(pair: Pair, drawn: u64) -> (Comparison, Covered) {
     let mut comparison = Comparison::new(pair);
     let mut covered = Covered::new();
-    let mut draw = Draw(drawn);
-    let drawn: Vec<_> = (0..drawn).map(|_| drawn_file(&mut draw)).collect();
-    for file in [bytes(), lengths(), faults(), counts(), drawn].concat() {
+    for file in cases(drawn) {
         let answers = comparison.ask(|who| who.open(&file));
         let shown = &file[..file.len().min(SHOWN)];
         comparison.hold(&(file.len(), shown), &answers, None);
@@ -103,7 +108,7 @@ impl Difference {
 }
 
 /// A gauge that the safe functions have, too.
-fn gauge(rolls: bool, period: u64, origin: u64) -> Gauge {
+pub(crate) fn gauge(rolls: bool, period: u64, origin: u64) -> Gauge {
     let (kind, origin) = if rolls { (ROLLER, origin) } else { (TURN, 0) };
     Gauge {
         kind,

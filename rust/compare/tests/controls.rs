@@ -2,9 +2,12 @@
 //! file that is wrong in one field, has to notice it. The differences that this prints are wanted.
 
 mod altered;
+mod archive;
 
 use altered::{altered_text, shortened, Altered, Change, CHANGES};
+use archive::Archive;
 use compare::stems::Difference;
+use compare::writes::Gauges;
 use compare::*;
 use zukemoriha::binary64::HOUSE_NAN;
 use zukemoriha::Answer::{Finished, Partial};
@@ -34,6 +37,16 @@ impl Implementation for Answering {
 
     fn fold_point(&self, gauge: Gauge, point: Point) -> Result<Point, u8> {
         Library.fold_point(gauge, point)
+    }
+
+    fn write(
+        &self,
+        gauge: Gauge,
+        readings: &[u64],
+        radii: &[u64],
+        room: usize,
+    ) -> Result<Vec<u8>, u8> {
+        Library.write(gauge, readings, radii, room)
     }
 }
 
@@ -79,6 +92,102 @@ impl Implementation for Otherwise {
             };
         }
         Ok(folded)
+    }
+
+    fn write(
+        &self,
+        gauge: Gauge,
+        readings: &[u64],
+        radii: &[u64],
+        room: usize,
+    ) -> Result<Vec<u8>, u8> {
+        Library.write(gauge, readings, radii, room)
+    }
+}
+
+/// The library, with another writer of stem files.
+struct Writing(Writer);
+
+type Writer = fn(Handed) -> Result<Vec<u8>, u8>;
+
+/// What is handed over to be written, and how long the room is.
+struct Handed {
+    gauge: Gauge,
+    readings: Vec<u64>,
+    radii: Vec<u64>,
+    room: usize,
+}
+
+impl Handed {
+    /// What the archive writes of it.
+    fn written(&self) -> Result<Vec<u8>, u8> {
+        Archive.write(self.gauge, &self.readings, &self.radii, self.room)
+    }
+
+    /// How long its file is.
+    fn length(&self) -> usize {
+        26 + 16 * self.readings.len()
+    }
+
+    /// What the archive writes where its points are so many, the first ones.
+    fn cut(mut self, points: usize) -> Result<Vec<u8>, u8> {
+        self.readings.resize(points, 0);
+        self.radii.resize(points, 0);
+        self.written()
+    }
+
+    /// What the archive writes of other patterns.
+    fn with_patterns(mut self, change: fn(u64) -> u64) -> Result<Vec<u8>, u8> {
+        for pattern in self.readings.iter_mut().chain(&mut self.radii) {
+            *pattern = change(*pattern);
+        }
+        self.written()
+    }
+
+    /// What the archive writes for another gauge, if it is this one.
+    fn with_gauge(mut self, is_this: bool, gauge: Gauge) -> Result<Vec<u8>, u8> {
+        if is_this {
+            self.gauge = gauge;
+        }
+        self.written()
+    }
+}
+
+impl Implementation for Writing {
+    fn name(&self) -> &'static str {
+        "writing"
+    }
+
+    fn answer(&self, call: &Call) -> Answer {
+        Library.answer(call)
+    }
+
+    fn fold(&self, kind: Kind, dividends: &[u64], divisor: u64) -> Result<Folded, u8> {
+        Library.fold(kind, dividends, divisor)
+    }
+
+    fn open(&self, file: &[u8]) -> Result<Stem, u8> {
+        Library.open(file)
+    }
+
+    fn fold_point(&self, gauge: Gauge, point: Point) -> Result<Point, u8> {
+        Library.fold_point(gauge, point)
+    }
+
+    fn write(
+        &self,
+        gauge: Gauge,
+        readings: &[u64],
+        radii: &[u64],
+        room: usize,
+    ) -> Result<Vec<u8>, u8> {
+        let (readings, radii) = (readings.to_vec(), radii.to_vec());
+        (self.0)(Handed {
+            gauge,
+            readings,
+            radii,
+            room,
+        })
     }
 }
 

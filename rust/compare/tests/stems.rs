@@ -1,7 +1,11 @@
-//! Stem files and the folds of their points, through both implementations. What was seen is pinned,
-//! so that no kind of case falls away.
+//! Stem files, opened and written, and the folds of their points, through both implementations. What
+//! was seen is pinned, so that no kind of case falls away.
 
-use compare::{sequence::Covered, stems, PAIR};
+mod archive;
+
+use archive::Archive;
+use compare::writes::{self, Gauges};
+use compare::{sequence::Covered, stems, Pair, Second, PAIR};
 
 fn pinned(cells: &[(&str, u64)]) -> Covered {
     let owned = |&(name, count): &(&str, u64)| (name.to_string(), count);
@@ -47,4 +51,43 @@ fn points_are_folded_alike() {
         ("zero of sign 1", 10_344),
     ];
     assert_eq!(covered, pinned(&cells));
+}
+
+/// How often each thing was seen in what was written, by the gauges of the safe functions and by any:
+/// numbers, what gauges were refused for, rooms, and classes of what files have.
+const WRITTEN: &str = include_str!("written.txt");
+
+/// A pattern is of one of six classes, and has a sign. Numbers, points and rooms; periods that are
+/// refused and that are not; origins of a roller and of a turn, which has but one where it is safe;
+/// readings and radii.
+const CELLS: usize = (5 + 4 + 12 + (12 + 1) + 24) + (6 + 4 + 12 + (12 + 12) + 24);
+
+/// By the safe function, and by the archive's own, which is handed any kind and a turn's origin.
+#[test]
+fn files_are_written_alike() {
+    let pairs: [(Pair, Gauges); 2] = [(PAIR, Gauges::Safe), ([&Archive, &Second], Gauges::Any)];
+    let (mut answers, mut different, mut all) = (0, 0, Covered::new());
+    for (pair, gauges) in pairs {
+        let (comparison, mut covered) = writes::compare(pair, gauges, 20_000);
+        answers += comparison.answers;
+        different += comparison.different;
+        all.append(&mut covered);
+    }
+    println!("{answers} files written and opened, {different} different");
+    let lines = all.iter().map(|(cell, count)| format!("{cell}: {count}\n"));
+    let text: String = lines.collect();
+    print!("{text}");
+    assert_eq!((answers, different, all.len()), (105_322, 0, CELLS));
+    assert_eq!(
+        text, WRITTEN,
+        "the counts are others than those in written.txt"
+    );
+}
+
+#[test]
+fn opened_files_are_written_again_as_they_were() {
+    let comparison = writes::again(PAIR, 20_000);
+    let (answers, different) = (comparison.answers, comparison.different);
+    println!("{answers} stem files written again, {different} different");
+    assert_eq!((answers, different), (11_934, 0));
 }

@@ -1,5 +1,5 @@
 //! The numbers that an answer carries, and the one sequence in which refusals are looked for.
-//! Number 9, for lengths that do not fit, has no place here: nothing is lent to this crate.
+//! Number 9, for lengths that do not fit, has no place here: these calls are lent nothing.
 
 use crate::format::{Class, Operand};
 use std::ops::RangeInclusive;

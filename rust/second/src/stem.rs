@@ -1,7 +1,7 @@
-//! Stem files, and the folding of their points.
+//! Stem files, read and written, and the folding of their points.
 //!
-//! A file is read as a row of numbers, little-endian: mark, version, kind, count, period, origin,
-//! and two for each point.
+//! A file is read and written as a row of numbers, little-endian: mark, version, kind, count,
+//! period, origin, and two for each point.
 
 use crate::difference::difference;
 use crate::format::{Class, Format, Operand};
@@ -13,12 +13,14 @@ const MOST_POINTS: u64 = 4000;
 /// The letters S, T and M as one number.
 const STM: u64 = 0x4D_5453;
 
+const LISTS: u8 = 9;
 const MARK: u8 = 10;
 const VERSION: u8 = 11;
 const KIND: u8 = 12;
 const COUNT: u8 = 13;
 const LENGTH: u8 = 14;
 const GAUGE: u8 = 15;
+const ROOM: u8 = 16;
 
 /// The kind of a gauge that turns.
 pub const TURN: u32 = 0;
@@ -111,6 +113,35 @@ pub fn fold(gauge: Gauge, point: Point) -> Result<Point, u8> {
     })
 }
 
+/// The file that is written to the front of a room of so many bytes.
+///
+/// # Errors
+/// The number of the first row that applies: 9, 12, 13, 15, 16.
+pub fn write(gauge: Gauge, readings: &[u64], radii: &[u64], room: usize) -> Result<Vec<u8>, u8> {
+    let count = readings.len() as u64;
+    first(&[
+        (readings.len() != radii.len(), LISTS),
+        (gauge.kind > ROLLER, KIND),
+        (count > MOST_POINTS, COUNT),
+        (!gauge.is_good(), GAUGE),
+        ((room as u64) < HEADER + POINT * count, ROOM),
+    ])?;
+    let header = [
+        (STM, 3),
+        (1, 2),
+        (gauge.kind.into(), 1),
+        (count, 4),
+        (gauge.period, 8),
+        (gauge.origin, 8),
+    ];
+    let points = readings.iter().zip(radii);
+    let points = points.flat_map(|(&reading, &radius)| [(reading, 8), (radius, 8)]);
+    let row = header.into_iter().chain(points);
+    Ok(row
+        .flat_map(|(number, bytes)| digits(number, bytes))
+        .collect())
+}
+
 impl Gauge {
     fn is_good(&self) -> bool {
         let period = read(self.period);
@@ -134,6 +165,11 @@ fn first(rows: &[(bool, u8)]) -> Result<(), u8> {
 fn number(file: &[u8], at: usize, bytes: usize) -> u64 {
     let bytes = file.iter().skip(at).take(bytes).enumerate();
     bytes.map(|(i, &byte)| u64::from(byte) << (8 * i)).sum()
+}
+
+/// So many bytes of a number, the lowest first.
+fn digits(number: u64, bytes: u32) -> impl Iterator<Item = u8> {
+    (0..bytes).map(move |i| (number >> (8 * i) & 0xFF) as u8)
 }
 
 fn read(pattern: u64) -> Operand {

@@ -1,6 +1,6 @@
 //! Stem files written out byte by byte, and folds worked out by hand.
 
-use second::stem::{fold, open, Gauge, Point, Stem, ROLLER, TURN};
+use second::stem::{fold, open, write, Gauge, Point, Stem, ROLLER, TURN};
 
 const HOUSE_NAN: u64 = 0x7FF8_0000_0000_0000;
 const LARGEST: u64 = 0x7FEF_FFFF_FFFF_FFFF;
@@ -289,5 +289,116 @@ fn readings_that_are_not_finite() {
         assert_eq!(folded(turn(period), reading), Ok(HOUSE_NAN));
         assert_eq!(folded(roller(period, LARGEST), reading), Ok(HOUSE_NAN));
         assert_eq!(folded(roller(period, 0), reading), Ok(HOUSE_NAN));
+    }
+}
+
+/// The readings and the radii of the file above.
+const READINGS: [u64; 2] = [0x40AA_9000_0000_0000, 0xC083_2000_0000_0000];
+const RADII: [u64; 2] = [0x4063_6800_0000_0000, 0xFFF7_0605_0403_0201];
+
+fn lengths() -> Gauge {
+    roller(0x4089_6400_0000_0000, 0x4059_2000_0000_0000)
+}
+
+#[test]
+fn a_file_is_written_byte_by_byte() {
+    for room in [58, 59, 1000, usize::MAX] {
+        let file = write(lengths(), &READINGS, &RADII, room);
+        assert_eq!(file.unwrap(), FILE);
+    }
+    // A turn of 360 degrees without a point.
+    let mut header = *b"STM\x01\0\0\0\0\0\0\0\0\0\0\0\x80\x76\x40\0\0\0\0\0\0\0\0";
+    let degrees = turn(0x4076_8000_0000_0000);
+    assert_eq!(write(degrees, &[], &[], 26).unwrap(), header);
+    // 515 points, a number of two bytes; one that is all ones, and one that has each digit once.
+    let (mut readings, mut radii) = ([0; 515], [0; 515]);
+    (readings[513], radii[514]) = (u64::MAX, 0xFEDC_BA98_7654_3210);
+    header[6..8].copy_from_slice(&[0x03, 0x02]);
+    let file = write(degrees, &readings, &radii, 26 + 16 * 515).unwrap();
+    assert_eq!(file[..26], header);
+    assert_eq!(file[26..26 + 16 * 513], [0; 16 * 513]);
+    let last = [
+        [[0xFF; 8], [0; 8]],
+        [[0; 8], [0x10, 0x32, 0x54, 0x76, 0x98, 0xBA, 0xDC, 0xFE]],
+    ];
+    assert_eq!(file[26 + 16 * 513..], last.concat().concat());
+}
+
+#[test]
+fn a_file_is_written_again_as_it_was() {
+    for file in [&FILE[..], &with(6, &[0])[..26], &with(6, &[1])[..42]] {
+        let Stem { gauge, points } = open(file).unwrap();
+        let readings: Vec<u64> = points.iter().map(|point| point.reading).collect();
+        let radii: Vec<u64> = points.iter().map(|point| point.radius).collect();
+        assert_eq!(write(gauge, &readings, &radii, file.len()).unwrap(), file);
+    }
+}
+
+#[test]
+fn as_many_points_are_written_as_may_be() {
+    let list = [HOUSE_NAN; 4001];
+    for (count, number) in [(3999, None), (4000, None), (4001, Some(13))] {
+        let list = &list[..count];
+        let length = 26 + 16 * count;
+        let told = |room| write(lengths(), list, list, room).map(|file| file.len());
+        assert_eq!(told(length), number.map_or(Ok(length), Err));
+        assert_eq!(told(length - 1), Err(number.unwrap_or(16)));
+    }
+}
+
+#[test]
+fn refusals_of_a_write_come_in_their_order() {
+    let mut gauge = Gauge {
+        kind: 2,
+        period: 0,
+        origin: INFINITY,
+    };
+    let list = [0; 4001];
+    // Each fault in its turn is mended, the one that is told before the next.
+    assert_eq!(write(gauge, &list, &list[1..], 25), Err(9));
+    assert_eq!(write(gauge, &list[1..], &list, 25), Err(9));
+    assert_eq!(write(gauge, &list, &list, 25), Err(12));
+    gauge.kind = ROLLER;
+    assert_eq!(write(gauge, &list, &list, 25), Err(13));
+    assert_eq!(write(gauge, &[], &[], 25), Err(15));
+    gauge.period = 1;
+    assert_eq!(write(gauge, &[], &[], 25), Err(15));
+    gauge.origin = 0;
+    assert_eq!(write(gauge, &[], &[], 25), Err(16));
+    assert!(write(gauge, &[], &[], 26).is_ok());
+}
+
+#[test]
+fn refused_writes() {
+    let one = 1_f64.to_bits();
+    let told = |gauge, room| write(gauge, &RADII, &RADII, room).map(|file| file.len());
+    for period in [0, NEGATIVE, NEGATIVE | 1, INFINITY, HOUSE_NAN, INFINITY | 1] {
+        assert_eq!(told(turn(period), 58), Err(15));
+        assert_eq!(told(roller(period, one), 58), Err(15));
+    }
+    for origin in [INFINITY, NEGATIVE | INFINITY, HOUSE_NAN, INFINITY | 1] {
+        assert_eq!(told(roller(one, origin), 58), Err(15));
+    }
+    for origin in [NEGATIVE, 1, one] {
+        let gauge = Gauge {
+            origin,
+            ..turn(one)
+        };
+        assert_eq!(told(gauge, 58), Err(15));
+        assert_eq!(told(roller(one, origin), 58), Ok(58));
+    }
+    for kind in [2, 256, u32::MAX] {
+        let gauge = Gauge { kind, ..turn(one) };
+        assert_eq!(told(gauge, 58), Err(12));
+    }
+    for period in [1, LARGEST] {
+        assert_eq!(told(turn(period), 58), Ok(58));
+    }
+    for room in [0, 25, 26, 57] {
+        assert_eq!(told(turn(one), room), Err(16));
+    }
+    for (readings, radii) in [(0, 1), (1, 0), (1, 2), (2, 1), (0, 2)] {
+        let lists = (&READINGS[..readings], &RADII[..radii]);
+        assert_eq!(write(turn(one), lists.0, lists.1, 58), Err(9));
     }
 }

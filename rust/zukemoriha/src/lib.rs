@@ -3,7 +3,7 @@
 //! The truncated remainder (C's `fmod`) and the nearest one (IEEE 754's `remainder`), with the
 //! three low bits of the quotient; the processor's partial step (FPREM, FPREM1) and runs of it;
 //! scaling by a power of two; splitting into significand and exponent; folding of lists; stem
-//! files of a log scanner, and the folding of their points.
+//! files of a log scanner, read and written, and the folding of their points.
 //!
 //! ```
 //! use zukemoriha::{remainder_f64, Kind};
@@ -35,7 +35,7 @@
 //! | `f64` | [`remainder_f64`], [`scale_f64`], [`split_f64`], [`fold_f64`] |
 //! | patterns of IEEE 754's interchange formats | [`binary16`], [`binary32`], [`binary64`] |
 //! | patterns of the 80-bit x87 format | [`x87`], on operands of type [`X87`] |
-//! | bytes of a stem file | [`Stem::open`], [`Gauge::fold`], in [`stem`] |
+//! | bytes of a stem file | [`Stem::open`], [`Gauge::fold`], [`Stem::write`], in [`stem`] |
 //!
 //! # The remainder
 //!
@@ -47,7 +47,7 @@
 //!
 //! # The numbers
 //!
-//! Every call ends in one of sixteen numbers. 0, 1 and 7 are answers, the rest refusals:
+//! Every call ends in one of seventeen numbers. 0, 1 and 7 are answers, the rest refusals:
 //!
 //! | Number | Here | Given when |
 //! |---|---|---|
@@ -67,9 +67,10 @@
 //! | 13 | [`Refusal::StemCount`] | the count is above 4000 |
 //! | 14 | [`Refusal::StemLength`] | the length is below a header's, or not what the count asks for |
 //! | 15 | [`Refusal::StemGauge`] | the period or the origin is not as it has to be |
+//! | 16 | [`Refusal::StemRoom`] | the room is shorter than the stem file |
 //!
-//! Where several refusals apply, the first of 9, 6, 2, 3, 4, 5, 8 is given; stem files have
-//! [their own order](Stem::open).
+//! Where several refusals apply, the first of 9, 6, 2, 3, 4, 5, 8 is given; stem files have orders
+//! of their own, for [reading](Stem::open) and for [writing](Stem::write).
 //!
 //! No operand makes a function panic. One thing does: an archive of another version than this
 //! crate, if it returns a number that this version never returns.

@@ -59,7 +59,8 @@ impl Answer {
 /// Why a call was refused. A refused call has written nothing to what it was lent.
 ///
 /// Where several refusals apply, a call gives the first of 9, 6, 2, 3, 4, 5, 8 by [`number`]. Stem
-/// files have an order of their own: see [`Stem::open`](crate::Stem::open).
+/// files have orders of their own: see [`Stem::open`](crate::Stem::open) and
+/// [`Stem::write`](crate::Stem::write).
 ///
 /// ```
 /// use zukemoriha::{remainder_f64, Kind, Refusal};
@@ -100,6 +101,8 @@ pub enum Refusal {
     StemLength = 14,
     /// The period or the origin of a [`Gauge`](crate::Gauge) is not as it has to be.
     StemGauge = 15,
+    /// The room is shorter than the stem file that is to be written to it.
+    StemRoom = 16,
 }
 
 impl Refusal {
@@ -123,6 +126,7 @@ impl Refusal {
             13 => Some(Refusal::StemCount),
             14 => Some(Refusal::StemLength),
             15 => Some(Refusal::StemGauge),
+            16 => Some(Refusal::StemRoom),
             _ => None,
         }
     }
@@ -141,11 +145,12 @@ impl fmt::Display for Refusal {
             Refusal::StemMark => "the stem file does not begin with STM",
             Refusal::StemVersion => "the version of the stem file is not 1",
             Refusal::StemKind => "the gauge is neither a turn nor a roller",
-            Refusal::StemCount => "the stem file declares more than 4000 points",
+            Refusal::StemCount => "the count of the stem file's points is above 4000",
             Refusal::StemLength => {
                 "the stem file has no whole header, or not the length that its count asks for"
             }
             Refusal::StemGauge => "the period or the origin is not one that a stem file may have",
+            Refusal::StemRoom => "the room is shorter than the stem file",
         })
     }
 }
@@ -214,7 +219,7 @@ mod tests {
 
     #[test]
     fn each_number_is_an_answer_or_a_refusal() {
-        for number in 0..=15 {
+        for number in 0..=16 {
             let told_again = match told(number) {
                 Ok(answer) => answer.number(),
                 Err(refusal) => refusal.number(),
@@ -225,8 +230,8 @@ mod tests {
 
     #[test]
     #[should_panic(expected = "different versions")]
-    fn a_number_above_15_is_of_another_version() {
-        let _ = told(16);
+    fn a_number_above_16_is_of_another_version() {
+        let _ = told(17);
     }
 
     #[test]

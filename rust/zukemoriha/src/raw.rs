@@ -1,7 +1,8 @@
 //! The functions of the archive, as the header zukemoriha.h declares them.
 //!
 //! What all of them ask of a caller: each pointer is not null, is aligned, and points to memory
-//! for what it is lent for, as many elements as its length says; no two lent places overlap.
+//! for what it is lent for, as many elements as its length says; no place that is lent to be
+//! written overlaps another one.
 
 extern "C" {
     pub fn zk_rem16(x: u16, y: u16, kind: u32, value: *mut u16, quotient: *mut u32) -> u8;
@@ -85,4 +86,16 @@ extern "C" {
         count: *mut usize,
     ) -> u8;
     pub fn zk_stem_fold(kind: u32, period: u64, origin: u64, reading: *mut u64) -> u8;
+    pub fn zk_stem_write(
+        kind: u32,
+        period: u64,
+        origin: u64,
+        readings: *const u64,
+        nreadings: usize,
+        radii: *const u64,
+        nradii: usize,
+        room: *mut u8,
+        length: usize,
+        written: *mut usize,
+    ) -> u8;
 }

@@ -13,8 +13,9 @@
 //! | from 26 | the points, 16 bytes each: reading, then radius, binary64 |
 //!
 //! [`Stem::open`] judges a whole file before anything is made of it, and borrows the part that
-//! holds the points. [`Gauge::fold`] folds a point onto one turn or one roller. Nothing is copied
-//! or allocated, whatever count a file claims to have.
+//! holds the points. [`Gauge::fold`] folds a point onto one turn or one roller. [`Stem::write`]
+//! writes a whole file to a room that it is lent. Nothing is allocated, and what is opened is not
+//! copied, whatever count a file claims to have.
 //!
 //! ```
 //! use zukemoriha::Stem;
@@ -51,7 +52,8 @@ use crate::{raw, Refusal};
 
 /// What readings are folded onto. Period and origin are binary64 patterns.
 ///
-/// Every pattern can be written here; [`fold`](Gauge::fold) refuses those that no file gives.
+/// Every pattern can stand here; [`fold`](Gauge::fold) and [`Stem::write`] refuse those that no
+/// file gives.
 #[derive(Clone, Copy, Debug, PartialEq, Eq, Hash)]
 pub enum Gauge {
     /// One turn of the scanner: readings are angles.
@@ -156,6 +158,21 @@ impl Point {
             radius: u64::from_le_bytes(radius),
         }
     }
+
+    /// The 16 bytes that [`from_bytes`](Point::from_bytes) reads.
+    ///
+    /// ```
+    /// use zukemoriha::Point;
+    ///
+    /// let point = Point { reading: 1.0_f64.to_bits(), radius: 0x7FF8_0000_0000_0001 };
+    /// let bytes = [0, 0, 0, 0, 0, 0, 0xF0, 0x3F, 1, 0, 0, 0, 0, 0, 0xF8, 0x7F];
+    /// assert_eq!(point.to_bytes(), bytes);
+    /// ```
+    pub const fn to_bytes(self) -> [u8; Point::LENGTH] {
+        let [a, b, c, d, e, f, g, h] = self.reading.to_le_bytes();
+        let [i, j, k, l, m, n, o, p] = self.radius.to_le_bytes();
+        [a, b, c, d, e, f, g, h, i, j, k, l, m, n, o, p]
+    }
 }
 
 /// A stem file that has been accepted: its gauge, and the part of the borrowed file that holds its
@@ -231,6 +248,96 @@ impl<'a> Stem<'a> {
                 points,
             }),
             None => other_version(),
+        }
+    }
+
+    /// Writes a whole file to the front of the room: the gauge, and a point for each reading, with
+    /// the radius at the same place of the other list.
+    ///
+    /// Readings and radii may be any patterns, and every bit of them is written, a NaN's too. The
+    /// room may be longer than the file: what lies behind it stays as it was. Returned is how many
+    /// bytes the file has.
+    ///
+    /// [`open`](Stem::open) takes the file, with the same gauge and the same points. A file that it
+    /// takes, written again with the gauge and the points that it has, is the same file.
+    ///
+    /// # Errors
+    ///
+    /// The first of these that applies; nothing is written then:
+    ///
+    /// - [`Refusal::BadLength`]: the two lists are not of one length
+    /// - [`Refusal::StemCount`]: they have more than [`MOST_POINTS`](Stem::MOST_POINTS) places
+    /// - [`Refusal::StemGauge`]: the period is not finite and above zero, or the origin is not
+    ///   finite
+    /// - [`Refusal::StemRoom`]: the room is shorter than [`length_of`](Stem::length_of) says
+    ///
+    /// # Examples
+    ///
+    /// ```
+    /// use zukemoriha::{Gauge, Refusal, Stem};
+    ///
+    /// let gauge = Gauge::Turn { period: 360.0_f64.to_bits() };
+    /// let readings = [725.5_f64.to_bits(), 0x7FF0_0000_0000_BEEF]; // a NaN that says something
+    /// let radii = [155.25_f64.to_bits(), 156.0_f64.to_bits()];
+    ///
+    /// let mut room = [0; 100];
+    /// let length = Stem::write(gauge, &readings, &radii, &mut room)?;
+    /// assert_eq!(length, 58);
+    ///
+    /// let stem = Stem::open(&room[..length])?;
+    /// assert_eq!(stem.gauge(), gauge);
+    /// assert!(stem.points().map(|point| point.reading).eq(readings));
+    /// assert!(stem.points().map(|point| point.radius).eq(radii));
+    ///
+    /// // A byte too short.
+    /// let refused = Stem::write(gauge, &readings, &radii, &mut room[..length - 1]);
+    /// assert_eq!(refused, Err(Refusal::StemRoom));
+    /// # Ok::<(), Refusal>(())
+    /// ```
+    pub fn write(
+        gauge: Gauge,
+        readings: &[u64],
+        radii: &[u64],
+        room: &mut [u8],
+    ) -> Result<usize, Refusal> {
+        let (kind, period, origin) = gauge.fields();
+        let mut written = 0;
+        // SAFETY: each slice is lent with its own length; its pointer is aligned and not null, also
+        // where it is empty. The borrows say that the room and `written` overlap nothing. The two
+        // lists may be one: they are only read.
+        let number = unsafe {
+            raw::zk_stem_write(
+                kind,
+                period,
+                origin,
+                readings.as_ptr(),
+                readings.len(),
+                radii.as_ptr(),
+                radii.len(),
+                room.as_mut_ptr(),
+                room.len(),
+                &mut written,
+            )
+        };
+        finished(number)?;
+        Ok(written)
+    }
+
+    /// How many bytes a file of so many points has: the room that [`write`](Stem::write) asks for.
+    /// `None` above [`MOST_POINTS`](Stem::MOST_POINTS), as there is no such file.
+    ///
+    /// ```
+    /// use zukemoriha::Stem;
+    ///
+    /// assert_eq!(Stem::length_of(2), Some(58));
+    /// assert_eq!(Stem::length_of(4000), Some(64_026));
+    /// assert_eq!(Stem::length_of(4001), None);
+    /// ```
+    pub const fn length_of(points: usize) -> Option<usize> {
+        if points <= Stem::MOST_POINTS {
+            Some(Stem::HEADER_LENGTH + points * Point::LENGTH)
+        } else {
+            None
         }
     }
 

@@ -8,6 +8,7 @@ use zukemoriha::{Gauge, Point, Refusal, Stem};
 #[path = "../src/raw.rs"]
 mod raw;
 
+const OLD_BYTE: u8 = 0xA5;
 const OLD: u32 = 0xA5A5_A5A5;
 const OLD_PATTERN: u64 = 0xA5A5_A5A5_A5A5_A5A5;
 const OLD_PLACE: usize = 0xA5A5;
@@ -84,6 +85,50 @@ fn folded(kind: u32, period: f64, origin: f64, mut reading: u64) -> (u8, u64) {
     // SAFETY: the reading is a place of its own.
     let number = unsafe { raw::zk_stem_fold(kind, period, origin, &mut reading) };
     (number, reading)
+}
+
+/// The number that the archive returns of a write, and what then stands where the length goes.
+fn written(gauge: (u32, f64, f64), [readings, radii]: [&[u64]; 2], room: &mut [u8]) -> (u8, usize) {
+    let (kind, period, origin) = gauge;
+    let mut written = OLD_PLACE;
+    // SAFETY: the lists and the room are lent with their lengths, and the length is a place of its
+    // own.
+    let number = unsafe {
+        raw::zk_stem_write(
+            kind,
+            period.to_bits(),
+            origin.to_bits(),
+            readings.as_ptr(),
+            readings.len(),
+            radii.as_ptr(),
+            radii.len(),
+            room.as_mut_ptr(),
+            room.len(),
+            &mut written,
+        )
+    };
+    (number, written)
+}
+
+/// The gauge of the safe functions, if they have it.
+fn safe((kind, period, origin): (u32, f64, f64)) -> Option<Gauge> {
+    let (period, origin) = (period.to_bits(), origin.to_bits());
+    match (kind, origin) {
+        (0, 0) => Some(Gauge::Turn { period }),
+        (1, _) => Some(Gauge::Roller { period, origin }),
+        _ => None,
+    }
+}
+
+fn lists(points: &[Point]) -> (Vec<u64>, Vec<u64>) {
+    let both = |point: &Point| (point.reading, point.radius);
+    points.iter().map(both).unzip()
+}
+
+/// Every pattern as a reading, with every pattern as its radius.
+fn paired() -> Vec<Point> {
+    let points = |reading| PATTERNS.map(|radius| Point { reading, radius });
+    PATTERNS.into_iter().flat_map(points).collect()
 }
 
 #[test]
@@ -237,4 +282,154 @@ fn points_are_read_from_both_ends() {
     assert_eq!(ends.clone().len(), 3);
     assert_eq!(ends.nth(3), None);
     assert_eq!((ends.next(), ends.next_back(), ends.len()), (None, None, 0));
+}
+
+/// In rooms of the file's length and longer ones, by the archive and by the safe function.
+#[test]
+fn a_written_file_is_that_of_the_table() {
+    let counts = [0, 1, 2, 255, 256, 3999, 4000];
+    for points in counts.map(numbered).into_iter().chain([paired()]) {
+        for gauge in [(0, 360.0, 0.0), (1, 812.5, -0.0), (1, 5e-324, f64::MIN)] {
+            let (kind, period, origin) = gauge;
+            let file = file(kind as u8, period, origin, &points);
+            assert_eq!(Stem::length_of(points.len()), Some(file.len()));
+            let (readings, radii) = lists(&points);
+            for more in [0, 1, 15, 16, 300] {
+                let behind = vec![OLD_BYTE; more];
+                let expected = [&file[..], &behind].concat();
+
+                let mut room = vec![OLD_BYTE; expected.len()];
+                let told = written(gauge, [&readings, &radii], &mut room);
+                assert_eq!(told, (0, file.len()), "{more} bytes more");
+                assert!(room == expected, "{more} bytes more");
+
+                let mut room = vec![OLD_BYTE; expected.len()];
+                let gauge = safe(gauge).unwrap();
+                let told = Stem::write(gauge, &readings, &radii, &mut room);
+                assert_eq!(told, Ok(file.len()), "{more} bytes more");
+                assert!(room == expected, "{more} bytes more");
+
+                let stem = Stem::open(&room[..file.len()]).unwrap();
+                assert_eq!(stem.gauge(), gauge);
+                assert!(stem.points().eq(points.iter().copied()));
+            }
+        }
+    }
+}
+
+/// All patterns for the period and the origin: those that a file may have.
+#[test]
+fn a_file_that_is_opened_is_written_again_as_it_was() {
+    let mut opened = 0;
+    for period in PATTERNS.map(f64::from_bits) {
+        for origin in PATTERNS.map(f64::from_bits) {
+            for kind in [0, 1] {
+                let file = file(kind, period, origin, &paired()[..21]);
+                if let Ok(stem) = Stem::open(&file) {
+                    let (readings, radii) = lists(&stem.points().collect::<Vec<_>>());
+                    let mut room = vec![OLD_BYTE; file.len()];
+                    let told = Stem::write(stem.gauge(), &readings, &radii, &mut room);
+                    assert_eq!(told, Ok(file.len()));
+                    assert_eq!(room, file);
+                    opened += 1;
+                }
+            }
+        }
+    }
+    // nine patterns are finite and above zero, and 15 finite
+    assert_eq!(opened, 9 + 9 * 15);
+}
+
+/// From all refusals together to none, and each by itself: kind, period and origin, how many
+/// readings and radii, how long the room is, and the number.
+#[test]
+fn a_refused_write_leaves_the_room_as_it_was() {
+    let (nan, infinity) = (f64::NAN, f64::INFINITY);
+    let list: Vec<u64> = PATTERNS.into_iter().cycle().take(70_000).collect();
+    for (gauge, readings, radii, length, number) in [
+        ((2, 0.0, nan), 4001, 4002, 0, 9),
+        ((2, 0.0, nan), 4001, 4001, 0, 12),
+        ((1, 0.0, nan), 4001, 4001, 0, 13),
+        ((1, 0.0, nan), 4000, 4000, 0, 15),
+        ((1, 812.5, nan), 4000, 4000, 0, 15),
+        ((1, 812.5, 0.0), 4000, 4000, 0, 16),
+        ((1, 812.5, 0.0), 4000, 4000, 64_025, 16),
+        ((0, 812.5, 0.0), 0, 1, 100, 9),
+        ((0, 812.5, 0.0), 1, 0, 100, 9),
+        ((1, 812.5, 0.0), 3, 4, 100, 9),
+        ((1, 812.5, 0.0), 4000, 4001, 70_000, 9),
+        ((1, 812.5, 0.0), 4001, 4000, 70_000, 9),
+        ((0, 812.5, 0.0), 0, 256, 100, 9),
+        ((0, 812.5, 0.0), 2, 65_538, 100, 9),
+        ((2, 812.5, 0.0), 3, 3, 100, 12),
+        ((256, 812.5, 0.0), 3, 3, 100, 12),
+        ((u32::MAX, 812.5, 0.0), 3, 3, 100, 12),
+        ((0, 812.5, 0.0), 4001, 4001, 70_000, 13),
+        ((1, 812.5, 0.0), 65_536, 65_536, 70_000, 13),
+        ((1, 812.5, 0.0), 65_539, 65_539, 100, 13),
+        ((0, 812.5, -0.0), 3, 3, 100, 15),
+        ((0, 812.5, 5e-324), 3, 3, 100, 15),
+        ((0, 812.5, 100.5), 3, 3, 100, 15),
+        ((0, 0.0, 0.0), 3, 3, 100, 15),
+        ((1, -0.0, 0.0), 0, 0, 100, 15),
+        ((1, -812.5, 0.0), 3, 3, 100, 15),
+        ((0, infinity, 0.0), 3, 3, 100, 15),
+        ((0, nan, 0.0), 3, 3, 100, 15),
+        ((1, 812.5, -infinity), 3, 3, 100, 15),
+        ((1, 812.5, -nan), 0, 0, 100, 15),
+        ((1, 812.5, 0.0), 0, 0, 0, 16),
+        ((0, 812.5, 0.0), 0, 0, 25, 16),
+        ((0, 812.5, 0.0), 1, 1, 26, 16),
+        ((1, 812.5, 0.0), 3, 3, 73, 16),
+    ] {
+        let (readings, radii) = (&list[..readings], &list[list.len() - radii..]);
+        let what = (gauge, readings.len(), radii.len(), length);
+        let mut room = vec![OLD_BYTE; length];
+        let told = written(gauge, [readings, radii], &mut room);
+        assert_eq!(told, (number, OLD_PLACE), "{what:?}");
+        if let Some(gauge) = safe(gauge) {
+            let told = Stem::write(gauge, readings, radii, &mut room);
+            assert_eq!(told.map_err(Refusal::number), Err(number), "{what:?}");
+        }
+        assert!(room.iter().all(|&byte| byte == OLD_BYTE), "{what:?}");
+    }
+}
+
+/// A list that is only read may be lent twice.
+#[test]
+fn one_list_may_be_both() {
+    let gauge = Gauge::Turn {
+        period: 360_f64.to_bits(),
+    };
+    let points = PATTERNS.map(|both| Point {
+        reading: both,
+        radius: both,
+    });
+    let mut room = [OLD_BYTE; 26 + 20 * 16];
+    let told = Stem::write(gauge, &PATTERNS, &PATTERNS, &mut room);
+    assert_eq!(told, Ok(room.len()));
+    assert_eq!(room[..], file(0, 360.0, 0.0, &points));
+}
+
+#[test]
+fn the_bytes_of_a_point_go_both_ways() {
+    let bytes = [1, 2, 3, 4, 5, 6, 7, 8, 9, 10, 11, 12, 13, 14, 15, 16];
+    let point = Point {
+        reading: 0x0807_0605_0403_0201,
+        radius: 0x100F_0E0D_0C0B_0A09,
+    };
+    assert_eq!(Point::from_bytes(&bytes), point);
+    assert_eq!(point.to_bytes(), bytes);
+    for point in paired() {
+        assert_eq!(Point::from_bytes(&point.to_bytes()), point);
+    }
+}
+
+#[test]
+fn no_file_has_more_points_than_may_be() {
+    assert_eq!(Stem::length_of(0), Some(26));
+    assert_eq!(Stem::length_of(4000), Some(64_026));
+    for points in [4001, 1 << 28, usize::MAX / 16, usize::MAX] {
+        assert_eq!(Stem::length_of(points), None);
+    }
 }

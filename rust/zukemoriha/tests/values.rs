@@ -81,10 +81,11 @@ fn enums_have_the_numbers_of_the_archive() {
         Refusal::StemCount,
         Refusal::StemLength,
         Refusal::StemGauge,
+        Refusal::StemRoom,
     ];
     assert_eq!(
         refusals.map(Refusal::number),
-        [2, 3, 4, 5, 6, 8, 9, 10, 11, 12, 13, 14, 15]
+        [2, 3, 4, 5, 6, 8, 9, 10, 11, 12, 13, 14, 15, 16]
     );
 }
 

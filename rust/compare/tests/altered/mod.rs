@@ -18,15 +18,16 @@ pub const CHANGES: [(&str, Change<Answer>); 6] = [
     ("the exponent", |answer| answer.exponent -= 1),
 ];
 
-/// The library, with one of its finished answers, its lists with a mark, its stem files with a point
-/// or its folded points changed.
+/// The library, with one of its finished answers, its lists with a mark, its stem files with a point,
+/// opened or written, or its folded points changed.
 pub struct Altered {
     /// How many of them come before that one.
     left: AtomicI64,
-    answer: Change<Answer>,
-    list: Change<Result<Folded, u8>>,
-    stem: Change<Result<Stem, u8>>,
-    point: Change<Result<Point, u8>>,
+    answer: Option<Change<Answer>>,
+    list: Option<Change<Result<Folded, u8>>>,
+    stem: Option<Change<Result<Stem, u8>>>,
+    point: Option<Change<Result<Point, u8>>>,
+    file: Option<Change<Result<Vec<u8>, u8>>>,
 }
 
 impl Altered {
@@ -35,10 +36,11 @@ impl Altered {
         let left = AtomicI64::new(left);
         Altered {
             left,
-            answer: |_| (),
-            list: |_| (),
-            stem: |_| (),
-            point: |_| (),
+            answer: None,
+            list: None,
+            stem: None,
+            point: None,
+            file: None,
         }
     }
 
@@ -49,7 +51,7 @@ impl Altered {
     /// The answer that comes after so many.
     pub fn later_answer(change: Change<Answer>, left: i64) -> Altered {
         Altered {
-            answer: change,
+            answer: Some(change),
             ..Altered::after(left)
         }
     }
@@ -57,27 +59,39 @@ impl Altered {
     /// The list that comes after so many.
     pub fn list(change: Change<Result<Folded, u8>>, left: i64) -> Altered {
         Altered {
-            list: change,
+            list: Some(change),
             ..Altered::after(left)
         }
     }
 
     pub fn stem(change: Change<Result<Stem, u8>>) -> Altered {
         Altered {
-            stem: change,
+            stem: Some(change),
             ..Altered::after(5)
         }
     }
 
     pub fn point(change: Change<Result<Point, u8>>) -> Altered {
         Altered {
-            point: change,
+            point: Some(change),
             ..Altered::after(5)
         }
     }
 
-    fn is_the_one(&self) -> bool {
-        self.left.fetch_sub(1, Ordering::Relaxed) == 0
+    pub fn file(change: Change<Result<Vec<u8>, u8>>) -> Altered {
+        Altered {
+            file: Some(change),
+            ..Altered::after(5)
+        }
+    }
+
+    /// What is told, changed if it is the one among those that count.
+    fn told<T>(&self, change: Option<Change<T>>, counts: bool, mut told: T) -> T {
+        let is_the_one = || self.left.fetch_sub(1, Ordering::Relaxed) == 0;
+        if let Some(change) = change.filter(|_| counts && is_the_one()) {
+            change(&mut told);
+        }
+        told
     }
 }
 
@@ -87,35 +101,36 @@ impl Implementation for Altered {
     }
 
     fn answer(&self, call: &Call) -> Answer {
-        let mut answer = Library.answer(call);
-        if answer.number == 0 && self.is_the_one() {
-            (self.answer)(&mut answer);
-        }
-        answer
+        let answer = Library.answer(call);
+        self.told(self.answer, answer.number == 0, answer)
     }
 
     fn fold(&self, kind: Kind, dividends: &[u64], divisor: u64) -> Result<Folded, u8> {
-        let mut list = Library.fold(kind, dividends, divisor);
-        if matches!(&list, Ok(folded) if folded.marked > 0) && self.is_the_one() {
-            (self.list)(&mut list);
-        }
-        list
+        let list = Library.fold(kind, dividends, divisor);
+        let is_marked = matches!(&list, Ok(folded) if folded.marked > 0);
+        self.told(self.list, is_marked, list)
     }
 
     fn open(&self, file: &[u8]) -> Result<Stem, u8> {
-        let mut stem = Library.open(file);
-        if matches!(&stem, Ok(stem) if !stem.points.is_empty()) && self.is_the_one() {
-            (self.stem)(&mut stem);
-        }
-        stem
+        let stem = Library.open(file);
+        let has_points = matches!(&stem, Ok(stem) if !stem.points.is_empty());
+        self.told(self.stem, has_points, stem)
     }
 
     fn fold_point(&self, gauge: Gauge, point: Point) -> Result<Point, u8> {
-        let mut folded = Library.fold_point(gauge, point);
-        if folded.is_ok() && self.is_the_one() {
-            (self.point)(&mut folded);
-        }
-        folded
+        let folded = Library.fold_point(gauge, point);
+        self.told(self.point, folded.is_ok(), folded)
+    }
+
+    fn write(
+        &self,
+        gauge: Gauge,
+        readings: &[u64],
+        radii: &[u64],
+        room: usize,
+    ) -> Result<Vec<u8>, u8> {
+        let file = Library.write(gauge, readings, radii, room);
+        self.told(self.file, file.is_ok() && !readings.is_empty(), file)
     }
 }
 

@@ -1,0 +1,79 @@
+-- A header and the points behind it are the file, and behind them is what was there. Assumes nothing.
+use mathlib.Core.Path.{_≡_, refl, sym, ap, _∙_}
+use mathlib.Core.Bool.{cond}
+use mathlib.Core.List.{List, _++_, append-assoc}
+use Prim.Native.Nat.{ℕ, _+_, _*_}
+use native.Mathlib.Omega.{arith}
+use borrow.Author.Tests.{ne-eqb}
+use lib.Dec.{eqb}
+use lib.Ieee.{Float, binary64, toBits}
+use lib.ListN.{length, take, drop}
+use lib.Seq.{drop-drop}
+use Rattle.definitions.specs.Numbers.{first}
+use Rattle.definitions.specs.Stem.{gaugeOf, headerLength, pointLength}
+use Rattle.definitions.specs.Stem as definition
+use Rattle.definitions.specs.StemWriter.{pointsOf, header, headerOf, pointBytes, stemFile, writing, Written, writeFields, writeStem}
+use Rattle.gauges.specs.Held.{gaugeBits}
+use Rattle.gauges.specs.declared.Gauge.{Gauge}
+use Rattle.gauges.specs.declared.Gauge.the-variants.{Turn, Roller}
+use Rattle.laws.proofs.Stem.{Held, held}
+use Rattle.laws.proofs.StemWriter.{Accepted, accepted, length-pairs, length-file}
+
+-- the fields of a gauge are those of its header
+header-held : (kind period origin : ℕ) (g : definition.Gauge) (m n : ℕ) → Held kind period origin g → m ≡ n → headerOf g m ≡ header kind n period origin
+header-held kind period origin g m n h e = rw (h .kindIs, h .periodIs, h .originIs, e)
+
+module _ (kind period origin : ℕ) (readings radii room : List ℕ) where
+  abbrev pub number : ℕ
+  number = first (writing kind period origin (length readings) (length radii) (length room))
+
+  abbrev count : ℕ
+  count = length readings
+
+  abbrev points : List ℕ
+  points = pointBytes (pointsOf readings radii)
+
+  abbrev end : ℕ
+  end = headerLength + pointLength * count
+
+  pub refused-call : (n : ℕ) → n ≡ number → (n ≡ 0 → ⊥) → _≡_ {A = Written} (record { number = n; written = 0; room = room }) (writeFields kind period origin readings radii room)
+  unfolding writeFields
+  refused-call n is some = rw (← is, ne-eqb n 0 some)
+
+  pub written-call : (n : ℕ) (room₁ room₂ : List ℕ) → n ≡ number → n ≡ 0
+      → room₁ ≡ header kind count period origin ++ drop headerLength room
+      → room₂ ≡ take headerLength room₁ ++ (points ++ drop end room₁)
+      → _≡_ {A = Written} (record { number = n; written = end; room = room₂ }) (writeFields kind period origin readings radii room)
+  unfolding writeFields
+  written-call n room₁ room₂ is none e₁ e₂ =
+      let zero = sym is ∙ none in
+      let a = accepted kind period origin count (length radii) (length room) zero in
+      let g = gaugeOf kind period origin in
+      let ps = pointsOf readings radii in
+      let first = header kind count period origin in
+      let pairs : length ps ≡ count = length-pairs readings radii (a .equal) in
+      let parts : stemFile g ps ≡ first ++ points =
+      ap (λ (l : List ℕ). l ++ points) (header-held kind period origin g (length ps) count (held kind period origin (a .known) (a .gauge)) pairs) in
+      let long : length (stemFile g ps) ≡ end = length-file g ps ∙ ap (λ (k : ℕ). headerLength + pointLength * k) pairs in
+      let past : drop end (first ++ drop headerLength room) ≡ drop end room =
+      rw (← drop-drop (pointLength * count) headerLength (first ++ drop headerLength room), drop-drop (pointLength * count) headerLength room) in
+      let rest = drop end room in
+      let later : room₂ ≡ stemFile g ps ++ rest =
+      e₂ ∙ rw (e₁, past) (sym (append-assoc first points rest)) ∙ ap (λ (l : List ℕ). l ++ rest) (sym parts) in
+      go number (stemFile g ps) zero long later
+    where
+      go : (m : ℕ) (file : List ℕ) → m ≡ 0 → length file ≡ end → room₂ ≡ file ++ drop end room
+          → _≡_ {A = Written} (record { number = n; written = end; room = room₂ })
+          (record { number = m; written = cond (eqb m 0) (length file) 0; room = cond (eqb m 0) (file ++ drop (length file) room) room })
+      go m file zero long later = rw (zero, none, later, long)
+
+-- a gauge's call is that of its fields
+pub turn-call : (gauge : Gauge) (p : Float) (readings radii room : List ℕ) → gauge ≡ Turn p
+    → writeStem (gaugeBits gauge) readings radii room ≡ writeFields 0 (toBits binary64 p) 0 readings radii room
+unfolding writeStem
+turn-call gauge p readings radii room e = rw e
+
+pub roller-call : (gauge : Gauge) (p o : Float) (readings radii room : List ℕ) → gauge ≡ Roller p o
+    → writeStem (gaugeBits gauge) readings radii room ≡ writeFields 1 (toBits binary64 p) (toBits binary64 o) readings radii room
+unfolding writeStem
+roller-call gauge p o readings radii room e = rw e
