@@ -1,3 +1,4 @@
 pub mod Refusing
 pub mod Handed
 pub mod Folded
+pub mod Written

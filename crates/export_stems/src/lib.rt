@@ -6,6 +6,7 @@ use gauges::Gauge;
 use gauges::gauge_of;
 use points::Point;
 use points::fold_point;
+use stem_writer::write_fields;
 use stems::BAD_KIND;
 use stems::HEADER_LENGTH;
 use stems::POINT_LENGTH;
@@ -16,6 +17,7 @@ ghost use mathlib.Core.Path.{_≡_};
 ghost use Rattle.definitions.specs.Numbers.{first};
 ghost use Rattle.definitions.specs.Exports.{after};
 ghost use Rattle.definitions.specs.Stem.{stem, stemNumber, fileKind, fileCount, filePeriod, fileOrigin, headerLength, gaugeOf, handing, foldReading};
+ghost use Rattle.definitions.specs.StemWriter.{writeFields};
 
 #[no_mangle]
 pub extern "C" fn zk_stem_open(
@@ -81,4 +83,27 @@ pub extern "C" fn zk_stem_fold(kind: u32, period: u64, origin: u64, reading: &mu
     let answer = folded.point;
     *reading = pattern_of(answer.reading);
     0
+}
+
+#[no_mangle]
+pub extern "C" fn zk_stem_write(
+    kind: u32,
+    period: u64,
+    origin: u64,
+    readings: &[u64],
+    radii: &[u64],
+    room: &mut [u8],
+    written: &mut usize,
+) -> u8
+    ensures number { λ r. ⌜ r ≡ writeFields kind period origin (now (readings .entry)) (now (radii .entry)) (now (room .entry)) .number ⌝ }
+    ensures room { λ _. ⌜ now (room .exit) ≡ writeFields kind period origin (now (readings .entry)) (now (radii .entry)) (now (room .entry)) .room ⌝ }
+    ensures written { λ r. ⌜ now (written .exit) ≡ after r (writeFields kind period origin (now (readings .entry)) (now (radii .entry)) (now (room .entry)) .written) (now (written .entry)) ⌝ }
+{
+    let answer = write_fields(kind, period, origin, readings, radii, room);
+    let number = answer.number;
+    if number != 0 {
+        return number;
+    }
+    *written = answer.written;
+    number
 }
