@@ -4,7 +4,7 @@ use mathlib.Core.Bool.{Bool, true, false}
 use mathlib.Core.List.{List, [], _∷_, _++_, map}
 use Prim.Native.Nat.{ℕ, _+_}
 use lib.Ieee.{size}
-use lib.ListN.{take, drop}
+use lib.ListN.{take, drop, replicate}
 use Rattle.definitions.specs.Class.{gap}
 use Rattle.definitions.specs.Format.{binary64, classOf, patternOf, magnitude}
 use Rattle.definitions.specs.Numbers.{first}
@@ -12,6 +12,7 @@ use Rattle.definitions.specs.Division.{finish}
 use Rattle.definitions.specs.Remainder.{remainder}
 use Rattle.definitions.specs.Difference.{difference}
 use Rattle.definitions.specs.Stem.{Gauge, turn, roller, good, goodFields, stem, opened, refused, handing, pointAt, foldReading, foldPoint}
+use Rattle.definitions.specs.StemWriter.{pointsOf, pointsIn, stemFile, writing, Written, writeFields, writeStem}
 
 -- ---- [11.9] x less y is z: signs and zeros, ties and what lies past them, denormals, the end of the range, infinities and NaNs
 pub record Row : Type 0 where
@@ -218,3 +219,54 @@ pub handed : (first (handing 0 0x3FF0000000000000 0) ≡ 0) × (first (handing 1
     × (first (handing 0x10000 0x3FF0000000000000 0) ≡ 12) × (first (handing 0x80000001 0x3FF0000000000000 0) ≡ 12)
 unfolding first goodFields classOf
 handed = (refl, refl, refl, refl, refl, refl, refl, refl)
+
+-- ---- [12.1, 12.2, 12.6] both files, written from their gauges and points, and their points read
+abbrev readings : List ℕ
+readings = 0x0807060504030201 ∷ 0x2827262524232221 ∷ 0x4076D64544434241 ∷ []
+
+-- the second is a NaN whose quiet digit is clear
+abbrev radii : List ℕ
+radii = 0x1817161514131211 ∷ 0x7FF7363534333231 ∷ 0x5857565554535251 ∷ []
+
+pub files-written : (stemFile (turn 0x4076800000000000) (pointsOf readings radii) ≡ turnFile)
+    × (stemFile (roller 0x3ECDAB8967452301 0xCEDCBA9876543210) [] ≡ rollerFile)
+files-written = (refl, refl)
+
+pub points-listed : (pointsIn points ≡ pointsOf readings radii) × (pointsIn [] ≡ [])
+points-listed = (refl, refl)
+
+-- ---- [12.3] a call with every fault, and then each mended in the order of the checks
+pub call-staircase : map first
+    (writing 2 0 0x7FF0000000000000 4001 4000 0
+    ∷ writing 2 0 0x7FF0000000000000 4001 4001 0
+    ∷ writing 1 0 0x7FF0000000000000 4001 4001 0
+    ∷ writing 1 0 0x7FF0000000000000 4000 4000 0
+    ∷ writing 1 0x3FF0000000000000 0x7FF0000000000000 4000 4000 0
+    ∷ writing 1 0x3FF0000000000000 0 4000 4000 0
+    ∷ writing 1 0x3FF0000000000000 0 4000 4000 64025
+    ∷ writing 1 0x3FF0000000000000 0 4000 4000 64026
+    ∷ [])
+    ≡ 9 ∷ 12 ∷ 13 ∷ 15 ∷ 15 ∷ 16 ∷ 16 ∷ 0 ∷ []
+unfolding first goodFields classOf
+call-staircase = refl
+
+-- one fault: a list longer, either; every kind above 1; an origin of a turn; a byte less for no point, and enough
+pub call-faults : map first
+    (writing 0 0x3FF0000000000000 0 1 0 100 ∷ writing 0 0x3FF0000000000000 0 0 1 100
+    ∷ writing 0x100 0x3FF0000000000000 0 0 0 26 ∷ writing 0x80000001 0x3FF0000000000000 0 0 0 26
+    ∷ writing 0 0x3FF0000000000000 0x8000000000000000 0 0 26 ∷ writing 1 0x3FF0000000000000 0x8000000000000000 0 0 26
+    ∷ writing 0 0x3FF0000000000000 0 0 0 25 ∷ writing 0 0x3FF0000000000000 0 0 0 26 ∷ [])
+    ≡ 9 ∷ 9 ∷ 12 ∷ 12 ∷ 15 ∷ 0 ∷ 16 ∷ 0 ∷ []
+unfolding first goodFields classOf
+call-faults = refl
+
+-- ---- [12.4, 12.5] what the room holds later: three bytes past the file, none, and one too few
+abbrev roomOf : ℕ → List ℕ
+roomOf n = replicate n 0xAA
+
+pub rooms-written : (writeFields 0 0x4076800000000000 0 readings radii (roomOf 74 ++ (1 ∷ 2 ∷ 3 ∷ [])) ≡ record { number = 0; written = 74; room = turnFile ++ (1 ∷ 2 ∷ 3 ∷ []) })
+    × (writeStem (roller 0x3ECDAB8967452301 0xCEDCBA9876543210) [] [] (roomOf 26) ≡ record { number = 0; written = 26; room = rollerFile })
+    × (writeFields 0 0x4076800000000000 0 readings radii (roomOf 73) ≡ record { number = 16; written = 0; room = roomOf 73 })
+    × (writeStem (turn 0) readings radii (roomOf 80) ≡ record { number = 15; written = 0; room = roomOf 80 })
+unfolding writeFields writeStem first goodFields classOf
+rooms-written = (refl, refl, refl, refl)

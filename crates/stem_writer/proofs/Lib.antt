@@ -1,3 +1,3 @@
-pub mod Filled
+pub mod Stores
 pub mod Points
 pub mod Whole

@@ -1,18 +1,20 @@
 -- A header and the points behind it are the file, and behind them is what was there. Assumes nothing.
 use mathlib.Core.Path.{_≡_, refl, sym, ap, _∙_}
 use mathlib.Core.Bool.{cond}
-use mathlib.Core.List.{List, _++_, append-assoc}
+use mathlib.Core.List.{List, _++_}
 use Prim.Native.Nat.{ℕ, _+_, _*_}
+use native.Mathlib.Nat.{zero-add}
 use native.Mathlib.Omega.{arith}
 use borrow.Author.Tests.{ne-eqb}
 use lib.Dec.{eqb}
 use lib.Ieee.{Float, binary64, toBits}
-use lib.ListN.{length, take, drop}
-use lib.Seq.{drop-drop}
+use lib.ListN.{length, drop}
+use lib.Seq.{sets, sets-eq}
 use Rattle.definitions.specs.Numbers.{first}
 use Rattle.definitions.specs.Stem.{gaugeOf, headerLength, pointLength}
 use Rattle.definitions.specs.Stem as definition
 use Rattle.definitions.specs.StemWriter.{pointsOf, header, headerOf, pointBytes, stemFile, writing, Written, writeFields, writeStem}
+use Rattle.stem_writer.proofs.Stores.{sets-more}
 use Rattle.gauges.specs.Held.{gaugeBits}
 use Rattle.gauges.specs.declared.Gauge.{Gauge}
 use Rattle.gauges.specs.declared.Gauge.the-variants.{Turn, Roller}
@@ -41,8 +43,8 @@ module _ (kind period origin : ℕ) (readings radii room : List ℕ) where
   refused-call n is some = rw (← is, ne-eqb n 0 some)
 
   pub written-call : (n : ℕ) (room₁ room₂ : List ℕ) → n ≡ number → n ≡ 0
-      → room₁ ≡ header kind count period origin ++ drop headerLength room
-      → room₂ ≡ take headerLength room₁ ++ (points ++ drop end room₁)
+      → room₁ ≡ sets room 0 (header kind count period origin)
+      → room₂ ≡ sets room₁ headerLength points
       → _≡_ {A = Written} (record { number = n; written = end; room = room₂ }) (writeFields kind period origin readings radii room)
   unfolding writeFields
   written-call n room₁ room₂ is none e₁ e₂ =
@@ -55,14 +57,12 @@ module _ (kind period origin : ℕ) (readings radii room : List ℕ) where
       let parts : stemFile g ps ≡ first ++ points =
       ap (λ (l : List ℕ). l ++ points) (header-held kind period origin g (length ps) count (held kind period origin (a .known) (a .gauge)) pairs) in
       let long : length (stemFile g ps) ≡ end = length-file g ps ∙ ap (λ (k : ℕ). headerLength + pointLength * k) pairs in
-      let past : drop end (first ++ drop headerLength room) ≡ drop end room =
-      rw (← drop-drop (pointLength * count) headerLength (first ++ drop headerLength room), drop-drop (pointLength * count) headerLength room) in
-      let rest = drop end room in
-      let later : room₂ ≡ stemFile g ps ++ rest =
-      e₂ ∙ rw (e₁, past) (sym (append-assoc first points rest)) ∙ ap (λ (l : List ℕ). l ++ rest) (sym parts) in
+      let joined : room₂ ≡ sets room 0 (first ++ points) = rw (e₂, e₁) (sets-more room first points 0 headerLength refl) in
+      let later : room₂ ≡ stemFile g ps ++ drop (length (stemFile g ps)) room =
+      joined ∙ ap (sets room 0) (sym parts) ∙ rw (zero-add (length (stemFile g ps))) at (sets-eq (stemFile g ps) room 0 (omega (arith, a .fits, long))) in
       go number (stemFile g ps) zero long later
     where
-      go : (m : ℕ) (file : List ℕ) → m ≡ 0 → length file ≡ end → room₂ ≡ file ++ drop end room
+      go : (m : ℕ) (file : List ℕ) → m ≡ 0 → length file ≡ end → room₂ ≡ file ++ drop (length file) room
           → _≡_ {A = Written} (record { number = n; written = end; room = room₂ })
           (record { number = m; written = cond (eqb m 0) (length file) 0; room = cond (eqb m 0) (file ++ drop (length file) room) room })
       go m file zero long later = rw (zero, none, later, long)

@@ -18,8 +18,10 @@ use stems::VERSION;
 ghost use mathlib.Core.Path.{_≡_};
 ghost use mathlib.Core.List.{_++_};
 ghost use Prim.Native.Nat.{_+_, _*_, _≤_};
-ghost use lib.ListN.{length, take, drop};
+ghost use lib.ListN.{length};
+ghost use lib.Seq.{sets};
 ghost use Rattle.definitions.specs.Numbers.{first};
+ghost use Rattle.definitions.specs.Bytes.{bytesOf};
 ghost use Rattle.definitions.specs.Stem.{headerLength, pointLength};
 ghost use Rattle.definitions.specs.StemWriter.{pointsOf, header, pointBytes, writing, writeFields, writeStem};
 ghost use Rattle.gauges.specs.Held.{gaugeBits};
@@ -64,7 +66,7 @@ fn judge_writing(
 
 fn write_header(room: &mut [u8], kind: u8, count: u32, period: u64, origin: u64)
     requires { ⌜ headerLength ≤ length (now room) ⌝ }
-    ensures { λ _. ⌜ now (room .exit) ≡ header kind count period origin ++ drop headerLength (now (room .entry)) ⌝ }
+    ensures { λ _. ⌜ now (room .exit) ≡ sets (now (room .entry)) 0 (header kind count period origin) ⌝ }
 {
     room[0] = 0x53;
     room[1] = 0x54;
@@ -76,16 +78,27 @@ fn write_header(room: &mut [u8], kind: u8, count: u32, period: u64, origin: u64)
     store8(room, 18, origin);
 }
 
+fn write_point(room: &mut [u8], at: usize, reading: u64, radius: u64)
+    requires { ⌜ at + pointLength ≤ length (now room) ⌝ }
+    ensures { λ _. ⌜ now (room .exit) ≡ sets (now (room .entry)) at (bytesOf 8 reading ++ bytesOf 8 radius) ⌝ }
+{
+    store8(room, at, reading);
+    store8(room, at + 8, radius);
+}
+
 // Every point, behind a header.
 fn write_points(room: &mut [u8], readings: &[u64], radii: &[u64])
     requires { ⌜ (length (now readings) ≡ length (now radii)) × (headerLength + pointLength * length (now readings) ≤ length (now room)) ⌝ }
-    ensures { λ _. ⌜ now (room .exit) ≡ take headerLength (now (room .entry)) ++ (pointBytes (pointsOf (now (readings .entry)) (now (radii .entry))) ++ drop (headerLength + pointLength * length (now (readings .entry))) (now (room .entry))) ⌝ }
+    ensures { λ _. ⌜ now (room .exit) ≡ sets (now (room .entry)) headerLength (pointBytes (pointsOf (now (readings .entry)) (now (radii .entry)))) ⌝ }
 {
     let mut i: usize = 0;
     while i < readings.len() {
-        let at = HEADER_LENGTH + POINT_LENGTH * i;
-        store8(room, at, readings[i]);
-        store8(room, at + 8, radii[i]);
+        write_point(
+            room,
+            HEADER_LENGTH + POINT_LENGTH * i,
+            readings[i],
+            radii[i],
+        );
         i += 1;
     }
 }
@@ -120,7 +133,14 @@ pub fn write_stem(gauge: Gauge, readings: &[u64], radii: &[u64], room: &mut [u8]
     match gauge {
         Gauge::Turn { period } => write_fields(0, pattern_of(period), 0, readings, radii, room),
         Gauge::Roller { period, origin } => {
-            write_fields(1, pattern_of(period), pattern_of(origin), readings, radii, room)
+            write_fields(
+                1,
+                pattern_of(period),
+                pattern_of(origin),
+                readings,
+                radii,
+                room,
+            )
         }
     }
 }

@@ -1,22 +1,22 @@
--- `write_points` meets its contract. After i points the room is filled up to the place of the next one. Assumes nothing.
+-- `write_points` meets its contract. After i points the room has their bytes behind the header. Assumes nothing.
 use mathlib.Core.Path.{_≡_, refl, sym, ap, _∙_}
-use mathlib.Core.List.{List}
-use Prim.Native.Nat.{ℕ, _+_, _*_, _-_, _≤_, _<_, zero-le}
+use mathlib.Core.List.{List, _++_}
+use Prim.Native.Nat.{ℕ, _+_, _*_, _-_, _≤_, zero-le}
 use native.Mathlib.Numerals.{add-one}
 use native.Mathlib.Omega.{arith}
 use lib.ListN.{length, getD}
+use lib.Seq.{sets, length-sets}
+use Rattle.definitions.specs.Bytes.{bytesOf}
 use Rattle.definitions.specs.Stem.{headerLength, pointLength}
-use Rattle.little_endian.specs.Stored.{stored}
-use Rattle.stem_writer.proofs.Filled.{filled}
-use Rattle.stem_writer.proofs.Points.{front, front-long, front-none, front-more, front-all}
+use Rattle.stem_writer.proofs.Stores.{sets-more}
+use Rattle.stem_writer.proofs.Points.{before, before-more, length-before, before-all}
 use Rattle.stem_writer.proofs.write_points.Statement.{statement}
 use Rattle.stem_writer.proofs.write_points.Tie as tie
 
 -- what holds after i points
 record Passed (room₀ readings radii room : List ℕ) (i : ℕ) : Type 0 where
   within : i ≤ length readings
-  is : room ≡ filled room₀ (front room₀ readings radii i)
-  long : length room ≡ length room₀
+  is : room ≡ sets room₀ headerLength (before readings radii i)
 
 abbrev Inv-loop : tie.InvT-loop
 Inv-loop room₀ readings radii i₀ room i = Passed room₀ readings radii room i
@@ -25,45 +25,33 @@ abbrev μ-loop : tie.MeasureT-loop
 μ-loop room₀ readings radii i₀ room i = length readings - i
 
 loop-holds : tie.Need-loop-holds Inv-loop μ-loop
-loop-holds c =
-    let s = c .before .before .before in
-    let a = s .args in
-    record { within = zero-le; is = sym (front-none (a .room .now) (a .readings .now) (a .radii .now) (s .pre .0) (s .pre .1)); long = refl }
+loop-holds c = record { within = zero-le; is = refl }
 
-mul-at : tie.Need-mul-at Inv-loop μ-loop
-mul-at c = omega arith
+mul-write-point : tie.Need-mul-write-point Inv-loop μ-loop
+mul-write-point c = omega arith
 
-add-at : tie.Need-add-at Inv-loop μ-loop
-add-at c = omega arith
+add-write-point : tie.Need-add-write-point Inv-loop μ-loop
+add-write-point c = omega arith
 
-mul-store8 : tie.Need-mul-store8 Inv-loop μ-loop
-mul-store8 c = omega arith
+mul-write-point-2 : tie.Need-mul-write-point-2 Inv-loop μ-loop
+mul-write-point-2 c = omega arith
 
-shared-slice-read-store8 : tie.Need-shared-slice-read-store8 Inv-loop μ-loop
-shared-slice-read-store8 c = omega arith
+shared-slice-read-write-point : tie.Need-shared-slice-read-write-point Inv-loop μ-loop
+shared-slice-read-write-point c = omega arith
 
-store8-requires : tie.Need-store8-requires Inv-loop μ-loop
-store8-requires c κs =
-    let l = c .before .before .before .loop in
-    let s = c .before .before .before .before .before .before .before in
-    omega (arith, s .pre .1, l .inv .long)
+mul-write-point-3 : tie.Need-mul-write-point-3 Inv-loop μ-loop
+mul-write-point-3 c = omega arith
 
-add-store8 : tie.Need-add-store8 Inv-loop μ-loop
-add-store8 c = omega arith
-
-mul-store8-2 : tie.Need-mul-store8-2 Inv-loop μ-loop
-mul-store8-2 c = omega arith
-
-shared-slice-read-store8-2 : tie.Need-shared-slice-read-store8-2 Inv-loop μ-loop
-shared-slice-read-store8-2 c =
-    let s = c .before .before .before .before .before .before .before .before .before .before .before .before in
+shared-slice-read-write-point-2 : tie.Need-shared-slice-read-write-point-2 Inv-loop μ-loop
+shared-slice-read-write-point-2 c =
+    let s = c .before .before .before .before .before .before .before .before in
     omega (arith, s .pre .0)
 
-store8-requires-2 : tie.Need-store8-requires-2 Inv-loop μ-loop
-store8-requires-2 c κs =
-    let l = c .before .before .before .before .before .before .before .before .loop in
-    let s = c .before .before .before .before .before .before .before .before .before .before .before .before in
-    omega (arith, s .pre .1, l .inv .long)
+write-point-requires : tie.Need-write-point-requires Inv-loop μ-loop
+write-point-requires c κs =
+    let l = c .before .before .before .before .loop in
+    let s = c .before .before .before .before .before .before .before .before in
+    omega (arith, s .pre .1, ap length (l .inv .is) ∙ length-sets (s .args .room .now) headerLength (before (s .args .readings .now) (s .args .radii .now) (l .i)))
 
 add-i : tie.Need-add-i Inv-loop μ-loop
 add-i c = omega arith
@@ -73,18 +61,25 @@ loop-less c = omega arith
 
 loop-again : tie.Need-loop-again Inv-loop μ-loop
 loop-again c =
-    let l = c .before .before .before .before .before .before .before .before .before .before .before .loop in
-    let s = c .before .before .before .before .before .before .before .before .before .before .before .before .before .before .before in
+    let l = c .before .before .before .before .before .before .before .loop in
+    let s = c .before .before .before .before .before .before .before .before .before .before .before in
     let xs = s .args .readings .now in
     let rs = s .args .radii .now in
     let room₀ = s .args .room .now in
-    let is : c .before .before .store82 .last .0 ≡ filled room₀ (front room₀ xs rs (l .i + 1)) =
-    rw (add-one (l .i), c .before .before .store82 .ensures, c .before .before .before .before .before .before .before .store8 .ensures, l .inv .is)
-    (front-more room₀ xs rs (s .pre .0) (s .pre .1) (l .i) (omega arith)) in
-    record { within = omega arith; is = is; long = ap length is ∙ front-long room₀ xs rs (s .pre .0) (s .pre .1) (l .i + 1) (omega arith) }
+    let at : headerLength + length (before xs rs (l .i)) ≡ headerLength + pointLength * l .i = ap (λ (n : ℕ). headerLength + n) (length-before xs rs (s .pre .0) (l .i) (omega arith)) in
+    record {
+      within = omega arith;
+      is =
+          rw (add-one (l .i), c .before .before .write-point .ensures, l .inv .is)
+          (sets-more room₀ (before xs rs (l .i)) (bytesOf 8 (getD xs (l .i) 0) ++ bytesOf 8 (getD rs (l .i) 0)) headerLength (headerLength + pointLength * l .i) at
+          ∙ ap (sets room₀ headerLength) (before-more xs rs (s .pre .0) (l .i) (omega arith)));
+    }
 
 same-length : tie.Need-same-length Inv-loop μ-loop
-same-length c = c .before .loop .inv .long
+same-length c =
+    let l = c .before .loop in
+    let a = c .before .before .before .before .before .args in
+    ap length (l .inv .is) ∙ length-sets (a .room .now) headerLength (before (a .readings .now) (a .radii .now) (l .i))
 
 returns : tie.Need-returns Inv-loop μ-loop
 returns c =
@@ -92,7 +87,7 @@ returns c =
     let s = c .before .before .before .before .before in
     let a = s .args in
     let e : l .i ≡ length (a .readings .now) = omega arith in
-    l .inv .is ∙ rw e (front-all (a .room .now) (a .readings .now) (a .radii .now) (s .pre .0) (s .pre .1))
+    l .inv .is ∙ ap (sets (a .room .now) headerLength) (ap (before (a .readings .now) (a .radii .now)) e ∙ before-all (a .readings .now) (a .radii .now) (s .pre .0))
 
 pub write-points-spec : {M : Type 1} → statement M
 write-points-spec =
@@ -101,15 +96,13 @@ write-points-spec =
     Inv-loop
     μ-loop
     loop-holds
-    mul-at
-    add-at
-    mul-store8
-    shared-slice-read-store8
-    store8-requires
-    add-store8
-    mul-store8-2
-    shared-slice-read-store8-2
-    store8-requires-2
+    mul-write-point
+    add-write-point
+    mul-write-point-2
+    shared-slice-read-write-point
+    mul-write-point-3
+    shared-slice-read-write-point-2
+    write-point-requires
     add-i
     loop-less
     loop-again
