@@ -15,7 +15,7 @@ ghost use lib.Dec.{eqb};
 ghost use lib.ListN.{length};
 ghost use Rattle.definitions.specs.Bytes.{ofBytes};
 ghost use Rattle.definitions.specs.Stem.{headerLength, mark, fileMark, judging, stem, stemPoints};
-ghost use Rattle.stems.specs.Opened.{answerOf, placedOf};
+ghost use Rattle.stems.specs.Opened.{answerOf, patternsPlaced, placedOf};
 
 pub const HEADER_LENGTH: usize = 26;
 
@@ -45,7 +45,19 @@ pub enum StemAnswer {
     Refused(u8),
 }
 
-// The point at a place of a file's points, if there is one.
+// A point by its patterns: every bit of a NaN is there.
+pub struct PointPatterns {
+    pub reading: u64,
+    pub radius: u64,
+}
+
+// The patterns at a place of a file's points, if there is a point.
+pub enum PlacedPatterns {
+    At(PointPatterns),
+    Past,
+}
+
+// The same as floats, where all NaNs are one.
 pub enum PlacedPoint {
     At(Point),
     Past,
@@ -110,17 +122,33 @@ pub fn points_of(file: &[u8]) -> &[u8]
     &file[HEADER_LENGTH..file.len()]
 }
 
-// The point at a place of such a part.
+// The patterns at a place of such a part.
+pub fn patterns_at(points: &[u8], place: usize) -> PlacedPatterns
+    ensures { λ r. ⌜ r ≡ patternsPlaced (now (points .entry)) place ⌝ }
+{
+    if points.len() / POINT_LENGTH <= place {
+        return PlacedPatterns::Past;
+    }
+    let at = POINT_LENGTH * place;
+    let patterns = PointPatterns {
+        reading: load8(points, at),
+        radius: load8(points, at + 8),
+    };
+    PlacedPatterns::At(patterns)
+}
+
+// The same as floats.
 pub fn point_at(points: &[u8], place: usize) -> PlacedPoint
     ensures { λ r. ⌜ r ≡ placedOf (now (points .entry)) place ⌝ }
 {
-    if points.len() / POINT_LENGTH <= place {
-        return PlacedPoint::Past;
+    match patterns_at(points, place) {
+        PlacedPatterns::Past => PlacedPoint::Past,
+        PlacedPatterns::At(patterns) => {
+            let point = Point {
+                reading: float_of(patterns.reading),
+                radius: float_of(patterns.radius),
+            };
+            PlacedPoint::At(point)
+        }
     }
-    let at = POINT_LENGTH * place;
-    let point = Point {
-        reading: float_of(load8(points, at)),
-        radius: float_of(load8(points, at + 8)),
-    };
-    PlacedPoint::At(point)
 }
