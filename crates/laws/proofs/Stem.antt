@@ -116,7 +116,12 @@ module _ (file : List ℕ) where
       go n true e = sym (eqb-true n 0 e)
       go n false e = refl
 
-  -- which is 0, or from 10 to 15
+  -- a file that no check refuses is opened
+  pub stem-opened : first (judging file) ≡ 0 → stem file ≡ opened fileGauge (drop headerLength file)
+  unfolding stem
+  stem-opened e = rw e
+
+  -- a number is 0, or from 10 to 15
   pub stem-numbers : (stemNumber (stem file) ≡ 0) ⊎ ((10 ≤ stemNumber (stem file)) × (stemNumber (stem file) ≤ 15))
   stem-numbers = rw stem-number (among (judging file) refl)
 

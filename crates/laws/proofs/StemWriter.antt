@@ -12,10 +12,10 @@ use lib.ListN.{length, getD, take, drop, length-append, length-drop, take-append
 use lib.Seq.{take-at, drop-at, drop-drop}
 use Rattle.definitions.specs.Numbers.{Check, first}
 use Rattle.definitions.specs.Bytes.{bytesOf, ofBytes, loaded}
-use Rattle.definitions.specs.Stem.{Gauge, turn, roller, Point, gaugeOf, kindOf, periodOf, originOf, good, goodFields, headerLength, pointLength, pointLimit, fileCount, opened, stem, stemNumber, pointAt, handing}
+use Rattle.definitions.specs.Stem.{Gauge, turn, roller, Point, gaugeOf, kindOf, periodOf, originOf, good, goodFields, headerLength, pointLength, pointLimit, fileKind, fileCount, filePeriod, fileOrigin, judging, opened, stem, stemNumber, pointAt, handing}
 use Rattle.definitions.specs.StemWriter.{pointsOf, pointsFrom, pointsIn, header, headerOf, pointBytes, stemFile, writing, Written, writeFields, writeStem}
 use Rattle.laws.proofs.Bytes.{AreBytes, length-bytes, of-bytes, drop-bytes}
-use Rattle.laws.proofs.Stem.{Row, none-first, Held, held, gauge-back, kind-small, opened-file, file-opened, file-number, row-long, point-bytes, handing-number}
+use Rattle.laws.proofs.Stem.{Row, Passed, passed, stem-number, stem-opened, none-first, Held, held, gauge-back, kind-small, opened-file, file-opened, file-number, row-long, point-bytes, handing-number}
 
 -- ---- the claim
 
@@ -30,6 +30,14 @@ PointPatterns (p ∷ ps) = (p .reading < 2 ^ 64) × (p .radius < 2 ^ 64) × Poin
 -- [12.6] a file is opened with this gauge and these points
 abbrev pub ReadsAs : List ℕ → Gauge → List Point → Type 0
 ReadsAs file g ps = (points : List ℕ) × (stem file ≡ opened g points) × (pointsIn points ≡ ps)
+
+-- [12.8] what C is told of a file: it is accepted, with this kind, period, origin and count
+pub record OpensWith (file : List ℕ) (kind period origin count : ℕ) : Type 0 where
+  pub accepted : stemNumber (stem file) ≡ 0
+  pub kindIs : fileKind file ≡ kind
+  pub periodIs : filePeriod file ≡ period
+  pub originIs : fileOrigin file ≡ origin
+  pub countIs : fileCount file ≡ count
 
 -- ---- points as bytes, and back
 
@@ -110,6 +118,10 @@ file-written-again file are g ps (points, o, e) =
 
 -- ---- the calls
 
+-- the header of a gauge has its fields
+pub header-held : (kind period origin : ℕ) (g : Gauge) (m n : ℕ) → Held kind period origin g → m ≡ n → headerOf g m ≡ header kind n period origin
+header-held kind period origin g m n h e = rw (h .kindIs, h .periodIs, h .originIs, e)
+
 -- [12.3] the number, by what is lent
 pub writing-number : (kind period origin readings radii room : ℕ) → first (writing kind period origin readings radii room)
     ≡ cond (eqb readings radii)
@@ -178,6 +190,23 @@ pair-patterns [] radii h k = tt
 pair-patterns (x ∷ readings) [] h k = tt
 pair-patterns (x ∷ readings) (r ∷ radii) h k = (h 0, k 0, pair-patterns readings radii (λ i. h (suc i)) (λ i. k (suc i)))
 
+-- the fields of a header are read as they stand there
+module _ (kind period origin : ℕ) (ps : List Point) where
+  abbrev row : List ℕ
+  row = header kind (length ps) period origin ++ pointBytes ps
+
+  pub kind-back : kind < 256 → fileKind row ≡ kind
+  kind-back h = of-bytes 1 kind ∙ mod-eq-of-lt h
+
+  pub count-back : length ps ≤ pointLimit → fileCount row ≡ length ps
+  count-back h = of-bytes 4 (length ps) ∙ mod-eq-of-lt (lt-of-le-of-lt h (lit< tt))
+
+  pub period-back : period < 2 ^ 64 → filePeriod row ≡ period
+  period-back h = of-bytes 8 period ∙ mod-eq-of-lt h
+
+  pub origin-back : origin < 2 ^ 64 → fileOrigin row ≡ origin
+  origin-back h = of-bytes 8 origin ∙ mod-eq-of-lt h
+
 module _ (kind period origin : ℕ) (readings radii room : List ℕ) where
   abbrev call : Written
   call = writeFields kind period origin readings radii room
@@ -238,6 +267,26 @@ module _ (kind period origin : ℕ) (readings radii room : List ℕ) where
       rw (write-front e)
       (file-reads-back (gaugeOf kind period origin) (pointsOf readings radii) (g .taken) (rw (← g .periodIs) p) (rw (← g .originIs) o) (pair-patterns readings radii h k) (rw n (a .most)))
 
+  -- [12.6, 12.8] and that is opened with the same kind, period and origin, and the count of the points
+  pub call-opens-with : period < 2 ^ 64 → origin < 2 ^ 64 → ArePatterns readings → ArePatterns radii → number ≡ 0
+      → OpensWith (take (call .written) (call .room)) kind period origin (length readings)
+  call-opens-with p o h k e =
+      let a = accepted kind period origin (length readings) (length radii) (length room) e in
+      let ps = pointsOf readings radii in
+      let n : length ps ≡ length readings = length-pairs readings radii (a .equal) in
+      let held = held kind period origin (a .known) (a .gauge) in
+      let f : file ≡ row kind period origin ps = ap (λ (l : List ℕ). l ++ pointBytes ps) (header-held kind period origin (gaugeOf kind period origin) (length ps) (length ps) held refl) in
+      let front : take (call .written) (call .room) ≡ row kind period origin ps = write-front e ∙ f in
+      let small : kind < 256 = omega (arith, a .known) in
+      let most : length ps ≤ pointLimit = rw n (a .most) in
+      record {
+        accepted = ap stemNumber (call-reads-back p o h k e .1);
+        kindIs = ap fileKind front ∙ kind-back kind period origin ps small;
+        periodIs = ap filePeriod front ∙ period-back kind period origin ps p;
+        originIs = ap fileOrigin front ∙ origin-back kind period origin ps o;
+        countIs = ap fileCount front ∙ count-back kind period origin ps most ∙ n;
+      }
+
 -- [12.7] what a file that is accepted reads as, written again, is that file
 pub call-written-again : (file : List ℕ) → AreBytes file → (g : Gauge) (readings radii room : List ℕ) → length readings ≡ length radii → length file ≤ length room
     → ReadsAs file g (pointsOf readings radii)
@@ -258,17 +307,31 @@ call-written-again file are g readings radii room same fits r =
         (record { number = 0; written = length file; room = file ++ drop (length file) room })
     go n f e s = rw (e, s)
 
+-- the same of what C is told of it
+fields-gauge : (kind period origin : ℕ) (g : Gauge) → Held kind period origin g → (readings radii room : List ℕ)
+    → writeFields kind period origin readings radii room ≡ writeStem g readings radii room
+unfolding writeStem
+fields-gauge kind period origin g h readings radii room = rw (h .kindIs, h .periodIs, h .originIs)
+
+pub fields-written-again : (file : List ℕ) → AreBytes file → (readings radii room : List ℕ) → length readings ≡ length radii → length file ≤ length room
+    → stemNumber (stem file) ≡ 0 → pointsIn (drop headerLength file) ≡ pointsOf readings radii
+    → writeFields (fileKind file) (filePeriod file) (fileOrigin file) readings radii room ≡ record { number = 0; written = length file; room = file ++ drop (length file) room }
+fields-written-again file are readings radii room same fits e ps =
+    let judged : first (judging file) ≡ 0 = sym (stem-number file) ∙ e in
+    let p = passed file judged in
+    let g = gaugeOf (fileKind file) (filePeriod file) (fileOrigin file) in
+    let h = held (fileKind file) (filePeriod file) (fileOrigin file) (p .kind) (p .gauge) in
+    fields-gauge (fileKind file) (filePeriod file) (fileOrigin file) g h readings radii room
+    ∙ call-written-again file are g readings radii room same fits (drop headerLength file, stem-opened file judged, ps)
+
 -- [12.3] 12 and 15 are for just those gauges that the reader refuses in a file that is right but for them
 pub gauge-refused : (kind period origin : ℕ) (ps : List Point) → kind < 256 → period < 2 ^ 64 → origin < 2 ^ 64 → length ps ≤ pointLimit
     → stemNumber (stem (header kind (length ps) period origin ++ pointBytes ps)) ≡ first (handing kind period origin)
 gauge-refused kind period origin ps k p o most =
-    let file = header kind (length ps) period origin ++ pointBytes ps in
+    let file = row kind period origin ps in
     let long : length file ≡ 26 + 16 * length ps = omega (arith, length-points ps) in
-    let kinds : loaded 1 5 file ≡ kind = of-bytes 1 kind ∙ mod-eq-of-lt k in
-    let counts : loaded 4 6 file ≡ length ps = of-bytes 4 (length ps) ∙ mod-eq-of-lt (lt-of-le-of-lt most (lit< tt)) in
-    let periods : loaded 8 10 file ≡ period = of-bytes 8 period ∙ mod-eq-of-lt p in
-    let origins : loaded 8 18 file ≡ origin = of-bytes 8 origin ∙ mod-eq-of-lt o in
-    file-number file ∙ go (length file) (loaded 1 5 file) (loaded 4 6 file) (loaded 8 10 file) (loaded 8 18 file) long kinds counts periods origins
+    file-number file
+    ∙ go (length file) (fileKind file) (fileCount file) (filePeriod file) (fileOrigin file) long (kind-back kind period origin ps k) (count-back kind period origin ps most) (period-back kind period origin ps p) (origin-back kind period origin ps o)
   where
     go : (l a n b c : ℕ) → l ≡ 26 + 16 * length ps → a ≡ kind → n ≡ length ps → b ≡ period → c ≡ origin
         → _≡_ {A = ℕ} (cond (ltb l 26) 14 (cond (ltb 1 a) 12 (cond (ltb 4000 n) 13 (cond (eqb l (26 + 16 * n)) (cond (goodFields a b c) 0 15) 14)))) (first (handing kind period origin))

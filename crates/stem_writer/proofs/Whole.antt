@@ -19,11 +19,7 @@ use Rattle.gauges.specs.Held.{gaugeBits}
 use Rattle.gauges.specs.declared.Gauge.{Gauge}
 use Rattle.gauges.specs.declared.Gauge.the-variants.{Turn, Roller}
 use Rattle.laws.proofs.Stem.{Held, held}
-use Rattle.laws.proofs.StemWriter.{Accepted, accepted, length-pairs, length-file}
-
--- the fields of a gauge are those of its header
-header-held : (kind period origin : ℕ) (g : definition.Gauge) (m n : ℕ) → Held kind period origin g → m ≡ n → headerOf g m ≡ header kind n period origin
-header-held kind period origin g m n h e = rw (h .kindIs, h .periodIs, h .originIs, e)
+use Rattle.laws.proofs.StemWriter.{header-held, Accepted, accepted, length-pairs, length-file}
 
 module _ (kind period origin : ℕ) (readings radii room : List ℕ) where
   abbrev pub number : ℕ

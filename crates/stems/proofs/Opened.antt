@@ -10,6 +10,7 @@ use borrow.Author.Tests.{ne-eqb, eqb-true, eqb-false}
 use Rattle.definitions.specs.Numbers.{first}
 use Rattle.definitions.specs.Stem.{headerLength, pointLength, fileKind, filePeriod, fileOrigin, gaugeOf, judging, stem, opened, refused, pointAt}
 use Rattle.digits.proofs.Tests.{clash}
+use Rattle.laws.proofs.Stem.{stem-opened}
 use Rattle.gauges.specs.declared.Gauge.{Gauge}
 use Rattle.points.specs.Held.{pointHeld}
 use Rattle.stems.specs.Opened.{answerOf, patternsPlaced, placedOf}
@@ -19,11 +20,6 @@ use Rattle.stems.specs.declared.PlacedPoint.the-variants.{At, Past}
 use Rattle.stems.specs.declared.StemAnswer.the-variants.{Opened, Refused}
 
 module _ (file : List ℕ) where
-  pub stem-opened : first (judging file) ≡ 0
-      → stem file ≡ opened (gaugeOf (fileKind file) (filePeriod file) (fileOrigin file)) (drop headerLength file)
-  unfolding stem
-  stem-opened e = rw e
-
   pub stem-refused : (first (judging file) ≡ 0 → ⊥) → stem file ≡ refused (first (judging file))
   unfolding stem
   stem-refused h = rw (ne-eqb (first (judging file)) 0 h)
@@ -40,7 +36,7 @@ module _ (file : List ℕ) where
   told-refused n e = go (eqb (first (judging file)) 0) refl
     where
       go : (t : Bool) → eqb (first (judging file)) 0 ≡ t → (first (judging file) ≡ n) × (n ≡ 0 → ⊥)
-      go true z = let r = sym (ap answerOf (stem-opened (eqb-true _ 0 z))) ∙ e in clash (cc)
+      go true z = let r = sym (ap answerOf (stem-opened file (eqb-true _ 0 z))) ∙ e in clash (cc)
       go false z =
           let r = sym (ap answerOf (stem-refused (eqb-false _ 0 z))) ∙ e in
           let is : first (judging file) ≡ n = cc in

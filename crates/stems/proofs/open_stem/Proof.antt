@@ -6,11 +6,11 @@ use native.Mathlib.Omega.{arith}
 use Rattle.definitions.specs.Numbers.{first}
 use Rattle.definitions.specs.Stem.{fileKind, filePeriod, fileOrigin, gaugeOf, judging}
 use Rattle.gauges.specs.Held.{gaugeHeld}
-use Rattle.laws.proofs.Stem.{Passed, passed}
+use Rattle.laws.proofs.Stem.{Passed, passed, stem-opened}
 use Rattle.stems.specs.Opened.{answerOf}
 use Rattle.stems.specs.declared.StemAnswer.the-variants.{Opened, Refused}
 use Rattle.stems.proofs.Header.{byte-at}
-use Rattle.stems.proofs.Opened.{stem-opened, stem-refused}
+use Rattle.stems.proofs.Opened.{stem-refused}
 use borrow.Author.Needs.{needs}
 use Rattle.stems.proofs.open_stem.Statement.{statement}
 use Rattle.stems.proofs.open_stem.Tie as tie

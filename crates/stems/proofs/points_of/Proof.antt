@@ -7,8 +7,8 @@ use lib.ListN.{length, drop, length-drop}
 use lib.Seq.{take-all}
 use Rattle.definitions.specs.Numbers.{first}
 use Rattle.definitions.specs.Stem.{headerLength, judging, stemPoints}
-use Rattle.laws.proofs.Stem.{Passed, passed}
-use Rattle.stems.proofs.Opened.{stem-opened, stem-refused}
+use Rattle.laws.proofs.Stem.{Passed, passed, stem-opened}
+use Rattle.stems.proofs.Opened.{stem-refused}
 use borrow.Author.Needs.{needs}
 use Rattle.stems.proofs.points_of.Statement.{statement}
 use Rattle.stems.proofs.points_of.Tie as tie
