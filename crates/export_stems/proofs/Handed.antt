@@ -7,42 +7,16 @@ use lib.Dec.{eqb}
 use lib.Ieee as Ieee
 use lib.Ieee.{Float, ofBits, toBits}
 use borrow.Author.Tests.{eqb-true, eqb-false, not-true}
-use Rattle.definitions.specs.Class.{Class, unsupported, nan, infinite, finite}
-use Rattle.definitions.specs.Format.{binary64, classOf, patternOf}
-use Rattle.definitions.specs.Numbers.{isUnsupported, isNan, isInfinite}
+use Rattle.definitions.specs.Format.{binary64, classOf}
 use Rattle.definitions.specs.Fold.{bad}
 use Rattle.definitions.specs.Stem.{turn, roller, gaugeOf, isPositive, good, goodFields}
-use Rattle.definitions.proofs.Refusals.{supported}
 use Rattle.digits.proofs.Tests.{clash, and-both}
-use Rattle.laws.proofs.Regular.{regular64}
-use Rattle.laws.proofs.RoundTrip.{written-read}
-use Rattle.laws.proofs.Ordinary.{hidden-ordinary}
-use Rattle.floats.proofs.Passed.{passed, passed-is}
+use Rattle.gauges.proofs.Passes.{passes, positive-passes}
 use Rattle.gauges.specs.Held.{gaugeHeld}
 use Rattle.gauges.specs.declared.Gauge.the-variants.{Turn, Roller}
 
-positive-finite : (c : Class) → isPositive c ≡ true → isNan c || isInfinite c ≡ false
-positive-finite unsupported e = refl
-positive-finite nan e = clash (cc)
-positive-finite (infinite n) e = clash (cc)
-positive-finite (finite v) e = refl
-
 abbrev back : Float → ℕ
 back x = toBits Ieee.binary64 x
-
--- a pattern of 64 bits that is finite
-module _ (b : ℕ) (small : b < 2 ^ 64) where
-  finite-passed : (c : Class) → classOf binary64 b ≡ c → isUnsupported c ≡ false → isNan c || isInfinite c ≡ false → passed b ≡ b
-  finite-passed unsupported e s h = clash (cc)
-  finite-passed nan e s h = clash (cc)
-  finite-passed (infinite n) e s h = clash (cc)
-  finite-passed (finite v) e s h = passed-is b ∙ ap (patternOf binary64) e ∙ written-read binary64 regular64 b v small (hidden-ordinary binary64 refl b) e
-
-  passes : bad b ≡ false → passed b ≡ b
-  passes h = finite-passed (classOf binary64 b) refl (supported binary64 refl b) h
-
-  positive-passes : isPositive (classOf binary64 b) ≡ true → passed b ≡ b
-  positive-passes h = passes (positive-finite (classOf binary64 b) h)
 
 -- the fields as a host reads them in each case of the gauge
 module _ (k p o : ℕ) (g : goodFields k p o ≡ true) (ps : p < 2 ^ 64) (os : o < 2 ^ 64) where

@@ -4,12 +4,13 @@ use mathlib.Core.Path.{_≡_, refl, sym, ap, _∙_}
 use mathlib.Core.Bool.{Bool, true, false, not, cond}
 use mathlib.Core.List.{List, [], _∷_, _++_}
 use Prim.Native.Nat.{ℕ, zero, suc, _+_, _*_, _/_, _%_, _^_, _≤_, _<_}
-use native.Mathlib.Nat.{mod-eq-of-lt, lt-of-le-of-lt}
+use native.Mathlib.Nat.{add-zero, add-suc, suc-add, mod-eq-of-lt, lt-of-le-of-lt}
 use native.Mathlib.Omega.{arith}
 use borrow.Author.Tests.{eqb-true, eqb-false, eq-eqb, ne-eqb, ltb-false, le-ltb, not-false}
 use lib.Dec.{ltb, eqb, lit<}
 use lib.ListN.{length, getD, take, drop, length-append, length-drop, take-append-drop}
 use lib.Seq.{take-at, drop-at, drop-drop}
+use Rattle.digits.proofs.Tests.{clash}
 use Rattle.definitions.specs.Numbers.{Check, first}
 use Rattle.definitions.specs.Bytes.{bytesOf, ofBytes, loaded}
 use Rattle.definitions.specs.Stem.{Gauge, turn, roller, Point, gaugeOf, kindOf, periodOf, originOf, good, goodFields, headerLength, pointLength, pointLimit, fileKind, fileCount, filePeriod, fileOrigin, judging, opened, stem, stemNumber, pointAt, handing}
@@ -52,7 +53,7 @@ length-file g ps = omega (arith, length-points ps)
 points-count : (points : List ℕ) (n : ℕ) → length points ≡ pointLength * n → length points / pointLength ≡ n
 points-count points n e = omega (arith, e)
 
-length-from : (i n : ℕ) (points : List ℕ) → length (pointsFrom i n points) ≡ n
+pub length-from : (i n : ℕ) (points : List ℕ) → length (pointsFrom i n points) ≡ n
 length-from i zero points = refl
 length-from i (suc n) points = ap suc (length-from (suc i) n points)
 
@@ -90,6 +91,29 @@ points-written (suc n) points h e =
     points-written n rest (drop-bytes pointLength points h) (rw (length-drop pointLength points) (omega (arith, e))) in
     let one : bytesOf 8 (loaded 8 0 points) ++ bytesOf 8 (loaded 8 8 points) ≡ take pointLength points = point-bytes points h 0 (omega (arith, e)) in
     rw (points-after 0 n points, more) (ap (λ (l : List ℕ). l ++ rest) one ∙ take-append-drop pointLength points)
+
+-- the point at each place of a part whose points are those of two lists
+pub place-back : (i n : ℕ) (points readings radii : List ℕ) → pointsFrom i n points ≡ pointsOf readings radii → (k : ℕ) → k < length readings → length readings ≡ length radii
+    → pointAt points (i + k) ≡ record { reading = getD readings k 0; radius = getD radii k 0 }
+place-back i n points [] radii e k h same = absurd (omega arith)
+place-back i n points (x ∷ readings) [] e k h same = absurd (omega (arith, same))
+place-back i zero points (x ∷ readings) (r ∷ radii) e k h same = clash (cc)
+place-back i (suc n) points (x ∷ readings) (r ∷ radii) e zero h same = rw (add-zero i) (cc)
+place-back i (suc n) points (x ∷ readings) (r ∷ radii) e (suc k) h same =
+    let rest : pointsFrom (suc i) n points ≡ pointsOf readings radii = cc in
+    rw (add-suc i k, ← suc-add i k) (place-back (suc i) n points readings radii rest k (omega (arith, h)) (omega (arith, same)))
+
+-- and a part with these points at its places has those of the lists
+pub places-list : (i : ℕ) (points readings radii : List ℕ) → length readings ≡ length radii
+    → ((k : ℕ) → k < length readings → pointAt points (i + k) ≡ record { reading = getD readings k 0; radius = getD radii k 0 })
+    → pointsFrom i (length readings) points ≡ pointsOf readings radii
+places-list i points [] radii same h = refl
+places-list i points (x ∷ readings) [] same h = absurd (omega (arith, same))
+places-list i points (x ∷ readings) (r ∷ radii) same h =
+    let one : pointAt points i ≡ record { reading = x; radius = r } = rw (add-zero i) at (h 0 (omega arith)) in
+    let more : (k : ℕ) → k < length readings → pointAt points (suc i + k) ≡ record { reading = getD readings k 0; radius = getD radii k 0 } =
+    λ k l. rw (suc-add i k, ← add-suc i k) (h (suc k) (omega (arith, l))) in
+    rw (places-list (suc i) points readings radii (omega (arith, same)) more) (ap (λ (p : Point). p ∷ pointsOf readings radii) one)
 
 -- ---- the two round trips, of files
 

@@ -1,3 +1,4 @@
 pub mod Stores
 pub mod Points
 pub mod Whole
+pub mod RoundTrip

@@ -12,9 +12,9 @@ use Rattle.definitions.specs.Bytes.{loaded}
 use Rattle.gauges.specs.Held.{gaugeHeld}
 use Rattle.gauges.specs.declared.Gauge.{Gauge}
 use Rattle.stems.specs.declared.StemAnswer.the-variants.{Opened}
-use Rattle.laws.proofs.Stem.{Passed, passed, field-small}
+use Rattle.laws.proofs.Stem.{Passed, passed, stem-opened, field-small}
 use Rattle.stems.specs.Opened.{answerOf}
-use Rattle.stems.proofs.Opened.{stem-opened, stem-refused, told-opened, told-refused}
+use Rattle.stems.proofs.Opened.{stem-refused, told-opened, told-refused}
 use Rattle.export_stems.proofs.Refusing.{kept}
 use Rattle.export_stems.proofs.Handed.{turn-fields, roller-fields}
 use borrow.Author.Needs.{needs}
