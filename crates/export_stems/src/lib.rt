@@ -100,10 +100,9 @@ pub extern "C" fn zk_stem_write(
     ensures written { λ r. ⌜ now (written .exit) ≡ after r (writeFields kind period origin (now (readings .entry)) (now (radii .entry)) (now (room .entry)) .written) (now (written .entry)) ⌝ }
 {
     let answer = write_fields(kind, period, origin, readings, radii, room);
-    let number = answer.number;
-    if number != 0 {
-        return number;
+    if answer.number != 0 {
+        return answer.number;
     }
     *written = answer.written;
-    number
+    answer.number
 }

@@ -121,10 +121,8 @@ pub fn write_fields(
     }
     write_header(room, kind as u8, count as u32, period, origin);
     write_points(room, readings, radii);
-    WriteAnswer {
-        number,
-        written: HEADER_LENGTH + POINT_LENGTH * count,
-    }
+    let written = HEADER_LENGTH + POINT_LENGTH * count;
+    WriteAnswer { number, written }
 }
 
 pub fn write_stem(gauge: Gauge, readings: &[u64], radii: &[u64], room: &mut [u8]) -> WriteAnswer

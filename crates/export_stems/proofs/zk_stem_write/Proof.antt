@@ -12,7 +12,7 @@ same-length c = search needs
 
 returns : tie.Need-returns
 returns c =
-    let w = c .before .before .before in
+    let w = c .before .before .before .before in
     let a = w .before .before .before .before .before .args in
     refused (a .kind) (a .period) (a .origin) (a .readings .now) (a .radii .now) (a .room .now) _ _ _ (a .written .now) (w .write-fields .ensures) (c .if1 .taken)
 
@@ -21,7 +21,7 @@ same-length-2 c = search needs
 
 returns-2 : tie.Need-returns-2
 returns-2 c =
-    let w = c .before .before .before in
+    let w = c .before .before .before .before in
     let a = w .before .before .before .before .before .args in
     written (a .kind) (a .period) (a .origin) (a .readings .now) (a .radii .now) (a .room .now) _ _ _ (a .written .now) (w .write-fields .ensures) (c .if1 .left)
 

@@ -1,6 +1,5 @@
 -- `write_fields` meets its contract: what is accepted fits, and is written. Assumes nothing.
 use mathlib.Core.Path.{_≡_, sym, _∙_}
-use Prim.Native.Nat.{ℕ}
 use native.Mathlib.Omega.{arith}
 use lib.ListN.{length}
 use Rattle.laws.proofs.StemWriter.{Accepted, accepted}
@@ -40,11 +39,11 @@ write-header-requires c κs = omega (arith, says (c .before) .fits)
 write-points-requires : tie.Need-write-points-requires
 write-points-requires c κs = let a = says (c .before .before .before .before .before) in (a .equal, omega (arith, a .fits))
 
-mul-t9 : tie.Need-mul-t9
-mul-t9 c = search needs
+mul-written : tie.Need-mul-written
+mul-written c = search needs
 
-add-t10 : tie.Need-add-t10
-add-t10 c = record { fits = omega (arith, says (c .before .before .before .before .before .before .before .before) .most) }
+add-written : tie.Need-add-written
+add-written c = record { fits = omega (arith, says (c .before .before .before .before .before .before .before .before) .most) }
 
 same-length : tie.Need-same-length
 same-length c = search needs
@@ -66,7 +65,7 @@ write-fields-spec =
     cast-write-header-2
     write-header-requires
     write-points-requires
-    mul-t9
-    add-t10
+    mul-written
+    add-written
     same-length
     returns-2)

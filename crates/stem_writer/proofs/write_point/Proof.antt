@@ -33,4 +33,10 @@ returns c =
 
 pub write-point-spec : {M : Type 1} → statement M
 write-point-spec =
-    tie.close (tie.spec store8-requires add-store8 store8-requires-2 same-length returns)
+    tie.close
+    (tie.spec
+    store8-requires
+    add-store8
+    store8-requires-2
+    same-length
+    returns)
