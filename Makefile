@@ -34,7 +34,8 @@ placed = $(out)/prefix
 pc = zukemoriha.pc.in
 
 exports = export_remainder export_steps export_scaling export_fold export_stems
-programs = host untouched chains fold half fprem libm ldexp stems modes
+programs = host untouched chains fold half fprem libm ldexp stems stem_writer modes
+sanitized = sanitized-stems sanitized-stem_writer
 version = $(shell sed -n 's/^\#define ZK_VERSION "\(.*\)"/\1/p' include/zukemoriha.h)
 warnings = -Wall -Wextra -pedantic
 cflags = -std=c99 -O2 $(warnings) -Iinclude
@@ -42,7 +43,7 @@ cflags = -std=c99 -O2 $(warnings) -Iinclude
 unbuilt = $(foreach n,fmod remainder remquo ldexp frexp,-fno-builtin-$(n) -fno-builtin-$(n)f -fno-builtin-$(n)l)
 sanitize = -g -fsanitize=address,undefined -fno-sanitize-recover=all
 parallel = $(MAKE) --no-print-directory -j$$(nproc) --output-sync=target
-headers = tests/calls.h tests/operands.h tests/halves.h include/zukemoriha.h
+headers = tests/calls.h tests/operands.h tests/halves.h tests/stems.h include/zukemoriha.h
 exported = sed -n 's/^[a-z0-9_]* \(zk_[a-z0-9_]*\)(.*/\1/p' $(header)
 # Run in rust/: nothing comes from a registry, and the caller's flags are left out. The crate looks for the archive from its own folder.
 unset = MAKEFLAGS MFLAGS CARGO_MAKEFLAGS RUSTFLAGS CARGO_ENCODED_RUSTFLAGS CARGO_BUILD_RUSTFLAGS CARGO_BUILD_TARGET \
@@ -75,7 +76,7 @@ check: tools ## what has changed is proved, then the tests (minutes)
 
 tests: header machine documents examples install-check rust $(addprefix test-,$(programs)) test-sanitized controls altered ## the tests alone, on the archive of what is proved
 
-check-long: peers long-half $(addprefix long-,chains fprem libm ldexp stems libm-musl ldexp-musl mpfr) ## ten million cases a format, musl, MPFR, all pairs of binary16 (an hour; cases=N seed=N for others)
+check-long: peers long-half $(addprefix long-,chains fprem libm ldexp stems stem_writer libm-musl ldexp-musl mpfr) ## ten million cases a format, musl, MPFR, all pairs of binary16 (an hour; cases=N seed=N for others)
 
 check-faults: $(addprefix $(faults)/,$(programs)) ## the tests on a library with one fault at a time: each has to be noticed
 	sh tests/faults.sh $(faults) '$(subst $(out)/,$(faults)/,$(cargo))'
@@ -199,20 +200,21 @@ $(addprefix $(out)/,$(programs)): $(out)/%: $(out)/%.o $(linked)
 $(addprefix test-,$(programs)): test-%: $(out)/%
 	$<
 
-# stems under the compiler's sanitizers, which Debian's gcc brings (tests/stems.c says what they see)
-$(out)/sanitized.o: tests/stems.c $(headers) | $(out)
+# under the compiler's sanitizers, which Debian's gcc brings (tests/stems.h says what they see)
+$(addprefix $(out)/,$(addsuffix .o,$(sanitized))): $(out)/sanitized-%.o: tests/%.c $(headers) | $(out)
 	$(CC) $(cflags) $(unbuilt) -Itests $(sanitize) -c $< -o $@
 
-$(out)/sanitized: $(out)/sanitized.o tests/sanitized.sh $(linked)
+$(addprefix $(out)/,$(sanitized)): $(out)/%: $(out)/%.o tests/sanitized.sh $(linked)
 	$(CC) $(sanitize) $< $(linked) -lm -o $@-program
 	$(INSTALL) tests/sanitized.sh $@
 
-test-sanitized: $(out)/sanitized
-	$< 200000
+test-sanitized: $(addprefix $(out)/,$(sanitized))
+	$(out)/sanitized-stems 200000
+	$(out)/sanitized-stem_writer 20000
 
 # ---- the long part
 
-.PHONY: long-half $(addprefix long-,chains fprem libm ldexp stems libm-musl ldexp-musl mpfr)
+.PHONY: long-half $(addprefix long-,chains fprem libm ldexp stems stem_writer libm-musl ldexp-musl mpfr)
 
 cases = 10000000
 seed = 2
@@ -224,7 +226,7 @@ $(out)/%-musl: tests/%.c $(headers) $(linked) | peers
 $(out)/mpfr: tests/mpfr.c $(headers) $(linked) | peers
 	$(CC) $(cflags) -Itests $< $(linked) -lmpfr -lgmp -o $@
 
-$(addprefix long-,chains fprem libm ldexp stems libm-musl ldexp-musl mpfr): long-%: $(out)/%
+$(addprefix long-,chains fprem libm ldexp stems stem_writer libm-musl ldexp-musl mpfr): long-%: $(out)/%
 	$< $(cases) $(seed)
 
 # all pairs of binary16: against whole-number division, and against the second implementation
@@ -246,7 +248,7 @@ $(faults)/lib/libzukemoriha.a: tests/faults.c include/zukemoriha.h $(linked)
 $(addprefix $(faults)/,$(programs)): $(faults)/%: $(out)/%.o $(faults)/lib/libzukemoriha.a
 	$(link) $< $(faults)/lib/libzukemoriha.a -lm -o $@
 
-$(faults)/sanitized: $(out)/sanitized.o tests/sanitized.sh $(faults)/lib/libzukemoriha.a
+$(addprefix $(faults)/,$(sanitized)): $(faults)/%: $(out)/%.o tests/sanitized.sh $(faults)/lib/libzukemoriha.a
 	$(CC) $(sanitize) $< $(faults)/lib/libzukemoriha.a -lm -o $@-program
 	$(INSTALL) tests/sanitized.sh $@
 
@@ -255,8 +257,8 @@ $(faults)/disputed: $(out)/libm.o $(faults)/lib/libzukemoriha.a
 	objcopy --redefine-sym remainder=fmod $< $@.o
 	$(CC) $@.o $(faults)/lib/libzukemoriha.a -lm -o $@
 
-controls: $(addprefix $(faults)/,$(programs) sanitized disputed)
-	sh tests/controls.sh $(faults) $(programs) sanitized
+controls: $(addprefix $(faults)/,$(programs) $(sanitized) disputed)
+	sh tests/controls.sh $(faults) $(programs) $(sanitized)
 
 # the tests by diff on altered copies, once they have passed on what there is
 altered: header machine documents examples install-check

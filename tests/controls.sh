@@ -15,13 +15,14 @@ unaltered() {
     FAULT=none "$folder/"$1 > "$log" 2>&1 || { echo "$1: complains of no fault"; missed=$((missed + 1)); }
 }
 
-# Blocks, lists and files of 2^32 bytes that the machine has no room for, or no limit of memory: the program says so, and the row is not
-# tried.
+# Blocks, lists, files and rooms of 2^32 bytes that the machine has no place for, or no limit of memory: the program says so, and the row
+# is not tried.
 no_room() {
     case $1 in
     *'long block'*) grep -m 1 '^no room for a long block' "$log" ;;
     *'long list'*) grep -m 1 '^no room for long lists' "$log" ;;
     *'long file'*) grep -m 1 '^no room for a long file' "$log" ;;
+    *'long room'*) grep -m 1 '^no place for a long room' "$log" ;;
     *'little memory'*) grep -m 1 '^no limit of memory here' "$log" ;;
     *) return 1 ;;
     esac
@@ -40,7 +41,7 @@ control() {
         line="NOT NOTICED (status $status, no '$3')"
         missed=$((missed + 1))
     fi
-    printf '%-14s %-44s %s\n' "$1" "$2" "$line"
+    printf '%-16s %-44s %s\n' "$1" "$2" "$line"
 }
 
 # program and arguments | fault, or none where the command alone makes the difference | the line that tells of it
@@ -360,7 +361,94 @@ stems 99999 | stem-fold-rounded-twice                    | ^a point: rounded
 stems 2000  | stem-fold-half-to-odd                      | ^a point: at a half
 stems 2000  | stem-fold-origin-added                     | ^a point of a file:
 stems 1     | none                                       | has no point
-sanitized 2000 | stem-open-start-one-point-too-far       | heap-buffer-overflow
+stem_writer 2000 | stem-write-most-is-3999                      | ^a count: the number
+stem_writer 2000 | stem-write-no-points-refused                 | ^a count: the number
+stem_writer 2000 | stem-write-most-is-4001                      | ^a count: the number
+stem_writer 2000 | stem-write-most-is-4001                      | ^a count: the room of a refused call
+stem_writer 2000 | stem-write-last-point-missing                | ^a count: the file
+stem_writer 2000 | stem-write-last-radius-missing               | ^a count: the file
+stem_writer 2000 | stem-write-list-after-list                   | ^a count: the file
+stem_writer 2000 | stem-write-count-of-two-bytes                | ^a count: the file
+stem_writer 2000 | stem-write-count-big-endian                  | ^a count: refused by zk_stem_open
+stem_writer 2000 | stem-write-radius-before-reading             | ^a count: other points by zk_stem_open
+stem_writer 2000 | stem-write-origin-loses-its-sign             | ^a count: another gauge by zk_stem_open
+stem_writer 2000 | stem-write-length-one-too-many               | ^a count: the length
+stem_writer 2000 | stem-write-length-without-the-header         | ^a count: the length
+stem_writer 2000 | stem-write-writes-behind-the-length          | ^a count: an output is touched
+stem_writer 2000 | stem-write-writes-behind-the-room            | ^a count: a byte outside of the room
+stem_writer 2000 | stem-write-writes-behind-the-room            | ^a count: bytes beside the room
+stem_writer 2000 | stem-write-writes-before-the-room            | ^a count: a byte outside of the room
+stem_writer 2000 | stem-write-writes-before-the-room            | ^a count: bytes beside the room
+stem_writer 2000 | stem-write-reads-behind-the-room             | ^a count: a byte outside of the room
+stem_writer 2000 | stem-write-reads-a-reading-more              | ^a count: a byte outside of the readings
+stem_writer 2000 | stem-write-reads-a-reading-before            | ^a count: a byte outside of the readings
+stem_writer 2000 | stem-write-reads-a-radius-more               | ^a count: a byte outside of the radii
+stem_writer 2000 | stem-write-reads-a-radius-before             | ^a count: a byte outside of the radii
+stem_writer 2000 | stem-write-readings-written                  | ^a count: the readings are changed
+stem_writer 2000 | stem-write-radii-written                     | ^a count: the radii are changed
+stem_writer 2000 | stem-write-writes-before-the-readings        | ^a count: the readings are changed
+stem_writer 2000 | stem-write-writes-behind-the-radii           | ^a count: the radii are changed
+stem_writer 2000 | stem-write-room-of-a-byte-less               | ^a room: the number
+stem_writer 2000 | stem-write-room-of-a-byte-more-asked         | ^a room: the number
+stem_writer 2000 | stem-write-header-before-the-room-is-judged  | ^a room: the room of a refused call
+stem_writer 2000 | stem-write-refusal-writes-the-length         | ^a room: an output is touched
+stem_writer 2000 | stem-write-a-byte-more                       | ^a room: the room behind the file
+stem_writer 2000 | stem-write-rest-cleared                      | ^a room: the room behind the file
+stem_writer 2000 | stem-write-length-of-the-room                | ^a room: the length
+stem_writer 2000 | stem-write-length-of-the-room                | ^a room: refused by zk_stem_open
+stem_writer 2000 | stem-write-shorter-list-taken                | ^unequal lists: the number
+stem_writer 2000 | stem-write-lists-compared-in-32-bits         | ^unequal lists: the number
+stem_writer 2000 | stem-write-lists-compared-in-32-bits         | ^unequal lists: the room of a refused call
+stem_writer 2000 | stem-write-reads-a-radius-for-each-reading   | ^unequal lists: a byte outside of the radii
+stem_writer 2000 | stem-write-reads-the-last-of-any-count       | ^unequal lists: a byte outside of all
+stem_writer 2000 | stem-write-kind-cut-to-a-byte                | ^a kind: the number
+stem_writer 2000 | stem-write-kind-cut-to-24-bits               | ^a kind: the number
+stem_writer 2000 | stem-write-zero-period                       | ^a gauge: the number
+stem_writer 2000 | stem-write-minus-zero-period                 | ^a gauge: the number
+stem_writer 2000 | stem-write-negative-period                   | ^a gauge: the number
+stem_writer 2000 | stem-write-infinite-period                   | ^a gauge: the number
+stem_writer 2000 | stem-write-quiet-nan-period                  | ^a gauge: the number
+stem_writer 2000 | stem-write-signalling-nan-period             | ^a gauge: the number
+stem_writer 2000 | stem-write-turn-has-an-origin                | ^a gauge: the number
+stem_writer 2000 | stem-write-turn-origin-left-out              | ^a gauge: the number
+stem_writer 2000 | stem-write-turn-has-a-minus-zero             | ^a gauge: the number
+stem_writer 2000 | stem-write-infinite-origin                   | ^a gauge: the number
+stem_writer 2000 | stem-write-nan-origin                        | ^a gauge: the number
+stem_writer 2000 | stem-write-refusal-wipes-the-room            | ^a gauge: the room of a refused call
+stem_writer 2000 | stem-write-period-and-origin-exchanged       | ^a gauge: another gauge by zk_stem_open
+stem_writer 2000 | stem-write-negative-radius-refused           | ^a class of point: the number
+stem_writer 2000 | stem-write-quiet-reading                     | ^a class of point: the file
+stem_writer 2000 | stem-write-quiet-radius                      | ^a class of point: the file
+stem_writer 2000 | stem-write-house-nan                         | ^a class of point: the file
+stem_writer 2000 | stem-write-nan-loses-its-sign                | ^a class of point: the file
+stem_writer 2000 | stem-write-denormals-flushed                 | ^a class of point: the file
+stem_writer 2000 | stem-write-zero-loses-its-sign               | ^a class of point: the file
+stem_writer 2000 | stem-write-kind-before-lists                 | ^faults together: the number
+stem_writer 2000 | stem-write-count-before-lists                | ^faults together: the number
+stem_writer 2000 | stem-write-count-before-kind                 | ^faults together: the number
+stem_writer 2000 | stem-write-gauge-before-count                | ^faults together: the number
+stem_writer 2000 | stem-write-room-before-count                 | ^faults together: the number
+stem_writer 2000 | stem-write-room-before-gauge                 | ^faults together: the number
+stem_writer 2000 | stem-write-count-cut-to-16-bits              | ^a far count: the number
+stem_writer 2000 | stem-write-count-cut-to-32-bits              | ^a far count: the number
+stem_writer 2000 | stem-write-product-of-32-bits                | ^a far count: the number
+stem_writer 2000 | stem-write-product-of-64-bits                | ^a far count: the number
+stem_writer 2000 | stem-write-reads-the-last-of-any-count       | ^a far count: a byte outside of the readings
+stem_writer 2000 | stem-write-room-cut-to-32-bits               | ^a long room: the number
+stem_writer 2000 | stem-write-a-byte-more                       | ^a long room: the room behind the file
+stem_writer 2000 | stem-write-rest-cleared                      | ^a long room: a byte outside of the room
+stem_writer 2000 | stem-write-asks-for-memory                   | ^little memory: the number
+stem_writer 2000 | stem-write-keeps-memory                      | ^little memory: the process has grown
+stem_writer 2000 | stem-write-some-denormals-refused            | ^a random call: the number
+stem_writer 2000 | stem-write-period-of-the-call-before         | ^a random call: another gauge by zk_stem_open
+stem_writer 2000 | stem-write-version-of-one-byte               | ^a random file: refused by zk_stem_open
+stem_writer 2000 | stem-write-quiet-radius                      | ^a random file: another file than was opened
+stem_writer 1 2  | none                                         | drawn calls: .* has no case
+stem_writer 1 2  | none                                         | ^readings: .* has no case
+stem_writer 1 2  | none                                         | ^radii: .* has no case
+stem_writer 1 2  | none                                         | ^files: .* has no case
+sanitized-stems 2000       | stem-open-start-one-point-too-far       | heap-buffer-overflow
+sanitized-stem_writer 2000 | stem-write-length-one-too-many          | heap-buffer-overflow
 modes 1600  | rem32-last-bit-as-the-rounding-mode-says   | ^remainder: another answer
 modes 8000  | rem64-zero-divisor-is-divided-by           | ^remainder: a trap
 modes 8000  | rem64-zero-divisor-is-divided-by           | ^remainder: a flag is raised
@@ -380,6 +468,11 @@ modes 1600  | stem-open-period-compared-by-the-processor | ^stem file: a trap
 modes 1600  | stem-fold-rounds-as-the-processor-does     | ^stem point: another answer with MXCSR 3F80
 modes 1600  | stem-fold-flushes-as-the-processor-does    | ^stem point: another answer
 modes 1600  | stem-fold-traps-as-the-processor-does      | ^stem point: a trap
+modes 1600  | stem-write-period-compared-by-the-processor | ^written file: another answer
+modes 1600  | stem-write-period-compared-by-the-processor | ^written file: a trap
+modes 1600  | stem-write-flushes-as-the-processor-does   | ^written file: another answer
+modes 1600  | stem-write-flushes-as-the-processor-does   | ^written file: a trap
+modes 1600  | stem-write-flushes-as-the-processor-does   | ^written file: a flag is raised
 modes 8     | none                                       | has no question
 host        | rem64-last-bit-is-wrong                    | ^C++ host: FAILED
 host        | rem64-quotient-of-one-bit                  | ^C++ host: FAILED

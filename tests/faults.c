@@ -547,9 +547,9 @@ static int is_nan(uint64_t pattern) {
 /* A period that is none, taken for one by the fault of its class. */
 static int period_let_through(uint64_t period, int zero, int minus_zero, int negative, int infinite, int quiet_nan, int signalling_nan) {
     const uint64_t quiet = UINT64_C(1) << 51;
-    return (zero && period == 0) || (minus_zero && period == sign64) ||
-           (negative && period > sign64 && period < (sign64 | infinity64)) || (infinite && (period & ~sign64) == infinity64) ||
-           (quiet_nan && is_nan(period) && (period & quiet)) || (signalling_nan && is_nan(period) && !(period & quiet));
+    return (zero && period == 0) || (minus_zero && period == sign64) || (negative && period > sign64 && period < (sign64 | infinity64)) ||
+           (infinite && (period & ~sign64) == infinity64) || (quiet_nan && is_nan(period) && (period & quiet)) ||
+           (signalling_nan && is_nan(period) && !(period & quiet));
 }
 
 static int origin_let_through(uint32_t kind, uint64_t origin, int of_turn, int minus_zero_of_turn, int infinite, int nan) {
@@ -638,7 +638,7 @@ static int memory_for(uint64_t count) {
 }
 
 uint8_t zk_stem_open(const uint8_t *file, size_t length, uint32_t *kind, uint64_t *period, uint64_t *origin, size_t *start, size_t *count) {
-    static uint8_t copy[COPIED];
+    uint8_t copy[COPIED]; /* not static: tests in Rust call from many threads */
     const uint8_t *lent = file;
     uint8_t number;
     size_t given = length;
@@ -833,9 +833,8 @@ static void make_gauge_good(struct task *t) {
                            fault("stem-write-negative-period"), fault("stem-write-infinite-period"), fault("stem-write-quiet-nan-period"),
                            fault("stem-write-signalling-nan-period")))
         t->period = 1;
-    if (origin_let_through(t->kind, t->origin, fault("stem-write-turn-has-an-origin") || fault("stem-write-turn-origin-left-out"),
-                           fault("stem-write-turn-has-a-minus-zero"), fault("stem-write-infinite-origin"),
-                           fault("stem-write-nan-origin")))
+    if (origin_let_through(t->kind, t->origin, fault("stem-write-turn-has-an-origin"), fault("stem-write-turn-has-a-minus-zero"),
+                           fault("stem-write-infinite-origin"), fault("stem-write-nan-origin")))
         t->origin = 0;
 }
 
@@ -865,7 +864,7 @@ static int told_otherwise(const struct task *t, uint8_t *number) {
     int many = t->nreadings > 4000, is_short = t->length < file_length(t);
     int bad_gauge = real_zk_stem_write(t->kind, t->period, t->origin, t->readings, 0, t->radii, 0, t->room, 0, &none) == ZK_STEM_GAUGE;
     uint8_t before = *number;
-    if (before == ZK_BAD_LENGTH && ((fault("stem-write-kind-before-lists") && t->kind > 1)))
+    if (before == ZK_BAD_LENGTH && fault("stem-write-kind-before-lists") && t->kind > 1)
         *number = ZK_STEM_KIND;
     if (before == ZK_BAD_LENGTH && fault("stem-write-count-before-lists") && many)
         *number = ZK_STEM_COUNT;
@@ -902,8 +901,6 @@ static void write_all_the_same(const struct task *t, uint8_t number, size_t *wri
         real_zk_stem_write(t->kind, t->period, t->origin, t->readings, 0, t->radii, 0, t->room, 26, &none);
     if (fault("stem-write-refusal-wipes-the-room") && number == ZK_STEM_GAUGE)
         memset(t->room, 0, t->length);
-    if (fault("stem-write-unequal-lists-written-first") && number == ZK_BAD_LENGTH && t->length > 25)
-        memcpy(t->room, "STM", 3);
 }
 
 static uint64_t spoilt(uint64_t pattern, int made_quiet) {
@@ -926,7 +923,8 @@ static void spoil_points(const struct task *t) {
     size_t n = t->nreadings, i;
     for (i = 0; i < n; i++) {
         uint8_t *point = t->room + 26 + 16 * i;
-        uint64_t reading = spoilt(t->readings[i], fault("stem-write-quiet-reading")), radius = spoilt(t->radii[i], fault("stem-write-quiet-radius"));
+        uint64_t reading = spoilt(t->readings[i], fault("stem-write-quiet-reading"));
+        uint64_t radius = spoilt(t->radii[i], fault("stem-write-quiet-radius"));
         if (reading != t->readings[i])
             put(point, reading, 8);
         if (radius != t->radii[i])
@@ -940,7 +938,7 @@ static void spoil_points(const struct task *t) {
     }
 }
 
-/* What is done to a written file; `before` has the last bytes of its place as they were, and its header. */
+/* What is done to a written file. The header and the last point are what was there before. */
 static void spoil_file(const struct task *t, const uint8_t *header, const uint8_t *last_point) {
     static uint64_t period = 1;
     size_t n = t->nreadings;
@@ -975,6 +973,10 @@ static void spoil_file(const struct task *t, const uint8_t *header, const uint8_
         ((uint64_t *)t->readings)[0] ^= sign64;
     if (fault("stem-write-radii-written") && n > 0)
         ((uint64_t *)t->radii)[n - 1] ^= sign64;
+    if (fault("stem-write-writes-before-the-readings"))
+        ((uint64_t *)t->readings)[-1] = 0;
+    if (fault("stem-write-writes-behind-the-radii"))
+        ((uint64_t *)t->radii)[n] = 0;
 }
 
 /* A file that is too long for its limit or for the room by a little, written as far as it goes; 0 returned if there is none. */
@@ -999,14 +1001,15 @@ static int written_too_long(const struct task *t, uint8_t number, uint8_t *copy,
 
 uint8_t zk_stem_write(uint32_t kind, uint64_t period, uint64_t origin, const uint64_t *readings, size_t nreadings, const uint64_t *radii,
                       size_t nradii, uint8_t *room, size_t length, size_t *written) {
-    static uint8_t copy[COPIED];
-    const struct task lent = {kind, period, origin, readings, radii, nreadings, nradii, room, length};
-    struct task t = lent;
+    uint8_t copy[COPIED]; /* not static: tests in Rust call from many threads */
+    struct task t = {kind, period, origin, readings, radii, nreadings, nradii, room, length};
     size_t none;
     uint8_t number;
-    read_lists(&lent);
+    if (fault("stem-write-turn-origin-left-out") && kind == ZK_TURN)
+        t.origin = origin = 0;
     if (fault("stem-write-keeps-memory"))
         memory = malloc(16);
+    read_lists(&t);
     cut_numbers(&t);
     make_gauge_good(&t);
     number = write_to(copy, t.length < COPIED ? t.length : COPIED, &t, &none);
@@ -1022,7 +1025,7 @@ uint8_t zk_stem_write(uint32_t kind, uint64_t period, uint64_t origin, const uin
     write_to(room, t.length, &t, written);
     if (t.period != period)
         put(room + PERIOD, period, 8);
-    if (t.origin != origin && !fault("stem-write-turn-origin-left-out"))
+    if (t.origin != origin)
         put(room + ORIGIN, origin, 8);
     t.length = length;
     spoil_points(&t);

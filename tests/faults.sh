@@ -8,10 +8,11 @@ folder=${1:?usage: faults.sh FOLDER CARGO}
 cargo=${2:?usage: faults.sh FOLDER CARGO}
 shift 2
 [ $# -gt 0 ] || set -- $(grep -o 'fault("[^"]*")' tests/faults.c | cut -d '"' -f 2)
-programs='untouched stems modes chains fold ldexp libm half fprem'
+programs='untouched stems stem_writer modes chains fold ldexp libm half fprem'
 comparisons='--test folds --test half --test halves --test lists --test published --test readings --test runs --test sequence --test stems --test vectors'
 # what a refusal writes into a single lent number stays inside the safe Rust functions, which have no kind but 0 and 1 and no turn with an
-# origin; lists, blocks and files of 2^32 places, bytes outside of a file, memory and floating-point environments are not for a test in Rust
+# origin; lists, blocks, files and rooms of 2^32 places, what lies outside of a file, a list or a room, memory and floating-point
+# environments are not for a test in Rust
 c_only='rem16-refusal-writes rem64-refusal-writes scale16-refusal-writes scale80-refusal-writes split64-refusal-writes fold-refusal-writes
     rem16-only-1-is-nearest step-only-1-is-nearest run-only-1-is-nearest fold-only-1-is-nearest rem32-other-kinds-write-more
     step-length-cut-to-32-bits run-length-cut-to-32-bits fold-lengths-compared-in-32-bits
@@ -25,7 +26,12 @@ c_only='rem16-refusal-writes rem64-refusal-writes scale16-refusal-writes scale80
     split32-zero-as-the-processor-compares split16-leaves-another-rounding-mode split80-pseudo-denormal-in-the-x87-unit
     fold-flushes-as-the-processor-does
     stem-open-period-compared-by-the-processor stem-fold-rounds-as-the-processor-does stem-fold-flushes-as-the-processor-does
-    stem-fold-traps-as-the-processor-does'
+    stem-fold-traps-as-the-processor-does
+    stem-write-lists-compared-in-32-bits stem-write-count-cut-to-32-bits stem-write-product-of-32-bits stem-write-product-of-64-bits
+    stem-write-room-cut-to-32-bits stem-write-reads-a-reading-more stem-write-reads-a-reading-before stem-write-reads-a-radius-more
+    stem-write-reads-a-radius-before stem-write-reads-a-radius-for-each-reading stem-write-reads-the-last-of-any-count
+    stem-write-reads-behind-the-room stem-write-writes-before-the-readings stem-write-writes-behind-the-radii
+    stem-write-asks-for-memory stem-write-keeps-memory stem-write-period-compared-by-the-processor'
 c_only=$(echo $c_only)
 
 by_c() {
@@ -53,7 +59,7 @@ missed=0
 for fault do
     faults=$((faults + 1))
     c=$(by_c "$fault") rust=$(by_rust "$fault")
-    printf '%-46s C: %-10s Rust: %s\n' "$fault" "$c" "$rust"
+    printf '%-46s C: %-11s Rust: %s\n' "$fault" "$c" "$rust"
     case $rust in
     nobody) case " $c_only " in *" $fault "*) [ "$c" != nobody ] || missed=$((missed + 1)) ;; *) missed=$((missed + 1)) ;; esac ;;
     esac

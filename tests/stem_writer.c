@@ -104,6 +104,7 @@ static void print_count(const char *sign, const char *of, uint64_t count) {
 
 static void print_sorts(const char *of, uint64_t (*sorts)[SORTS]) {
     int sort;
+    next_part();
     printf("%s:", of);
     for (sort = 0; sort < SORTS; sort++) {
         print_count("+", sort_names[sort], sorts[0][sort]);
@@ -114,14 +115,16 @@ static void print_sorts(const char *of, uint64_t (*sorts)[SORTS]) {
 
 static void print_counts(void) {
     static const uint8_t all[] = {0, 9, 12, 13, 15, 16};
-    static const char *const names[] = {"written", "9", "12", "13", "15", "16"};
+    static const char *const names[] = {"written", "number 9", "number 12", "number 13", "number 15", "number 16"};
     size_t i;
+    next_part();
     printf("%" PRIu64 " drawn calls:", calls);
     for (i = 0; i < sizeof all / sizeof *all; i++)
         print_count("", names[i], numbers[all[i]]);
     printf("\n");
     print_sorts("readings", sorts_of_readings);
     print_sorts("radii", sorts_of_radii);
+    next_part();
     printf("files:");
     print_count("", "turn written and opened", opened[ZK_TURN]);
     print_count("", "roller written and opened", opened[ZK_ROLLER]);
@@ -268,7 +271,7 @@ static struct task good_task(uint32_t kind, size_t count, size_t length) {
 /* Counts near the ends, some between, and some above the limit, in a room that is as long as the file. */
 static void counts(void) {
     size_t count;
-    for (count = 0; count <= MOST + 100; count += count < 64 || count >= MOST - 4 ? 1 : 61) {
+    for (count = 0; count <= MOST + 100; count += count < 64 || count >= MOST - 64 ? 1 : 61) {
         compare_task(good_task(ZK_TURN, count, length_of(count)));
         compare_task(good_task(ZK_ROLLER, count, length_of(count)));
     }
@@ -556,7 +559,7 @@ static void random_files(uint64_t cases, uint64_t seed) {
 }
 
 int main(int argc, char **argv) {
-    uint64_t cases = pairs_asked(argc, argv, 20000), seed = seed_asked(argc, argv);
+    uint64_t cases = pairs_asked(argc, argv, 50000), seed = seed_asked(argc, argv);
     around_readings = area_of(sizeof readings);
     around_radii = area_of(sizeof radii);
     around_room = area_of(LONGEST_ROOM);

@@ -301,15 +301,17 @@ static inline int memory_is_refused(size_t bytes) {
 /* Runs with no room for another 64 KiB, as many bytes as 4,096 points have, and says whether the process has kept any memory. */
 static inline int grows_in_little_memory(void (*run)(void)) {
     struct rlimit before, limit;
-    size_t used = pages_used();
-    struct mallinfo2 heap = mallinfo2();
+    struct mallinfo2 heap;
+    size_t used;
     int grown;
     getrlimit(RLIMIT_AS, &before);
     limit = before;
-    limit.rlim_cur = (used + 4) * (size_t)sysconf(_SC_PAGESIZE);
+    limit.rlim_cur = (pages_used() + 4) * (size_t)sysconf(_SC_PAGESIZE);
     setrlimit(RLIMIT_AS, &limit);
     if (!memory_is_refused(65536))
         printf("no limit of memory here: not tried\n");
+    used = pages_used();
+    heap = mallinfo2();
     run();
     grown = pages_used() != used || mallinfo2().uordblks != heap.uordblks || mallinfo2().hblkhd != heap.hblkhd;
     setrlimit(RLIMIT_AS, &before);

@@ -6,6 +6,8 @@ use std::fmt::Debug;
 
 /// Differences beyond these are counted alone.
 const MOST_PRINTED: u64 = 20;
+/// Characters that are printed of an answer.
+const MOST_SHOWN: usize = 2_000;
 
 /// What was compared so far.
 pub struct Comparison<'a> {
@@ -46,11 +48,11 @@ impl<'a> Comparison<'a> {
             return;
         }
         println!("different: {case:X?}");
-        for (who, answer) in self.pair.iter().zip(answers) {
-            println!("  {}: {answer:X?}", who.name());
-        }
-        if let Some(answer) = expected {
-            println!("  file: {answer:X?}");
+        let names = self.pair.iter().map(|who| who.name()).chain(["expected"]);
+        let texts = answers.iter().chain(expected);
+        let texts: Vec<String> = texts.map(|answer| format!("{answer:X?}")).collect();
+        for (name, text) in names.zip(shown(&texts)) {
+            println!("  {name}: {text}");
         }
     }
 
@@ -65,4 +67,25 @@ impl<'a> Comparison<'a> {
     pub fn sum_up(&self, name: &str) {
         println!("{name}: {} lines, {} different", self.lines, self.different);
     }
+}
+
+/// The texts; of long ones the part from a little before the first place where one differs.
+fn shown(texts: &[String]) -> impl Iterator<Item = &str> {
+    let differs = |other: &String| {
+        texts[0]
+            .bytes()
+            .zip(other.bytes())
+            .position(|(a, b)| a != b)
+    };
+    let first = texts.iter().filter_map(differs).min().unwrap_or(0);
+    let is_long = texts.iter().any(|text| text.len() > MOST_SHOWN);
+    let from = if is_long {
+        first.saturating_sub(MOST_SHOWN / 4)
+    } else {
+        0
+    };
+    texts.iter().map(move |text| {
+        let end = text.len().min(from + MOST_SHOWN);
+        text.get(from..end).unwrap_or("")
+    })
 }

@@ -8,7 +8,10 @@ use crate::stems::{self, gauge, HEADER, MOST, SHOWN};
 use crate::Comparison;
 use second::stem::{Gauge, Point, Stem, ROLLER, TURN};
 use second::Format;
+use std::collections::BTreeMap;
+use std::fmt::{self, Display, Formatter};
 
+const SEED: u64 = 4;
 /// Bytes of a point.
 const POINT: usize = 16;
 const INFINITY: u64 = 0x7FF << 52;
@@ -49,8 +52,8 @@ struct Case {
 /// what; for files, what they have.
 pub fn compare(pair: Pair, gauges: Gauges, drawn: u64) -> (Comparison, Covered) {
     let mut comparison = Comparison::new(pair);
-    let mut covered = Covered::new();
-    let mut draw = Draw(drawn);
+    let mut cells = BTreeMap::new();
+    let mut draw = Draw(SEED);
     let drawn = (0..drawn).map(|_| drawn_case(&mut draw)).collect();
     let cases = [bytes(), rooms(), faults(), lengths(), counts(), drawn];
     for mut case in cases.into_iter().flatten() {
@@ -63,11 +66,10 @@ pub fn compare(pair: Pair, gauges: Gauges, drawn: u64) -> (Comparison, Covered) 
             comparison.hold(&case.shown(), &opened, Some(&Ok(case.stem())));
         }
         let number = *answers[0].as_ref().err().unwrap_or(&0);
-        for seen in case.seen(number) {
-            *covered.entry(format!("{gauges:?} {seen}")).or_insert(0) += 1;
-        }
+        case.note(number, |cell| *cells.entry(cell).or_insert(0) += 1);
     }
-    (comparison, covered)
+    let named = |(cell, count)| (format!("{gauges:?} {cell}"), count);
+    (comparison, cells.into_iter().map(named).collect())
 }
 
 /// The files that are opened, so many of them drawn: written again they are as they were.
@@ -114,47 +116,71 @@ impl Case {
         }
     }
 
-    /// The number, with the class of the period or the origin where the gauge is refused; for a file
-    /// the classes of all its numbers, whether it has no point or the most, and whether it fits.
-    fn seen(&self, number: u8) -> Vec<String> {
-        let (period, origin) = (class(self.gauge.period), class(self.gauge.origin));
-        let origin = format!("{origin} of kind {}", self.gauge.kind);
-        let mut seen = vec![format!("number {number}")];
-        match (number, period.as_str()) {
-            (GAUGE, "denormal of sign 0" | "normal of sign 0") => {
-                seen.push(format!("number {number} by origin {origin}"));
-            }
-            (GAUGE, _) => seen.push(format!("number {number} by period {period}")),
-            (0, _) => {
+    /// The number, and what a gauge is refused for; of a file whether it has no point or the most,
+    /// whether there was room left, and the classes of all its numbers.
+    fn note(&self, number: u8, mut note: impl FnMut(Cell)) {
+        let Gauge {
+            kind,
+            period,
+            origin,
+        } = self.gauge;
+        let [has, has_bad] = match kind {
+            TURN => ["turn's origin", "turn's bad origin"],
+            _ => ["roller's origin", "roller's bad origin"],
+        };
+        note(Cell::Number(number));
+        match number {
+            0 => {
                 let count = self.readings.len();
                 if count == 0 || count == MOST as usize {
-                    seen.push(format!("points {count}"));
+                    note(Cell::Points(count));
                 }
-                let fits = self.room == HEADER + POINT * count;
-                seen.push(format!("room {}", if fits { "fits" } else { "longer" }));
-                seen.push(format!("period {period}"));
-                seen.push(format!("origin {origin}"));
-                let named = |name, list: &[u64]| {
-                    let named = |&pattern: &u64| format!("{name} {}", class(pattern));
-                    list.iter().map(named).collect::<Vec<_>>()
-                };
-                seen.extend(named("reading", &self.readings));
-                seen.extend(named("radius", &self.radii));
+                note(Cell::IsLeft(self.room > HEADER + POINT * count));
+                note(Cell::of("period", period));
+                note(Cell::of(has, origin));
+                let readings = self.readings.iter().map(|&x| Cell::of("reading", x));
+                let radii = self.radii.iter().map(|&x| Cell::of("radius", x));
+                readings.chain(radii).for_each(note);
             }
+            GAUGE if (1..INFINITY).contains(&period) => note(Cell::of(has_bad, origin)),
+            GAUGE => note(Cell::of("bad period", period)),
             _ => (),
         }
-        seen
     }
 }
 
-fn class(pattern: u64) -> String {
-    let (class, _) = Layout::of(Format::Binary64).sorted(pattern.into());
-    let class = match class {
-        "NaN" if pattern & QUIET != 0 => "quiet NaN",
-        "NaN" => "signalling NaN",
-        class => class,
-    };
-    format!("{class} of sign {}", pattern >> 63)
+/// A thing that is counted.
+#[derive(PartialEq, Eq, PartialOrd, Ord)]
+enum Cell {
+    Number(u8),
+    Points(usize),
+    /// Whether a part of the room is left.
+    IsLeft(bool),
+    /// What has a pattern, the pattern's class, and its sign.
+    Class(&'static str, &'static str, u64),
+}
+
+impl Cell {
+    fn of(what: &'static str, pattern: u64) -> Cell {
+        let class = match Layout::of(Format::Binary64).sorted(pattern.into()).0 {
+            "NaN" if pattern & QUIET == 0 => "signalling NaN",
+            "NaN" => "quiet NaN",
+            class => class,
+        };
+        Cell::Class(what, class, pattern >> 63)
+    }
+}
+
+impl Display for Cell {
+    fn fmt(&self, f: &mut Formatter) -> fmt::Result {
+        match self {
+            Cell::Number(number) => write!(f, "number {number}"),
+            Cell::Points(count) => write!(f, "points {count}"),
+            Cell::IsLeft(true) => write!(f, "room longer"),
+            Cell::IsLeft(false) => write!(f, "room fits"),
+            Cell::Class(what, class, sign) => write!(f, "{what} {class} of sign {sign}"),
+        }
+    }
 }
 
 /// A good case of each kind, with so many readings and radii that count up.
@@ -247,20 +273,19 @@ fn lengths() -> Vec<Case> {
         .collect()
 }
 
-/// As many points as may be, one less and more of them, also so many that 16 bits do not count them,
-/// in rooms that fit, are a byte too short, and longer.
+/// As many points as may be, one less and one more, in rooms that fit, are a byte too short, and are
+/// longer; and so many points that 16 bits do not count them.
 fn counts() -> Vec<Case> {
     let most = MOST as usize;
-    let around = [most - 1, most, most + 1, most + 2];
-    let far = [2 * most, 65_535, 65_536, 65_537];
-    let mut cases = Vec::new();
-    for count in around.into_iter().chain(far) {
+    let around = [most - 1, most, most + 1].into_iter().flat_map(|count| {
         let fits = HEADER + POINT * count;
-        for room in [fits - 1, fits, fits + 100] {
-            cases.extend(good(count, count).map(|case| Case { room, ..case }));
-        }
-    }
-    cases
+        [fits - 1, fits, fits + 100].map(|room| (count, room))
+    });
+    let far = [65_536, 65_537].map(|count| (count, HEADER + POINT * count));
+    around
+        .chain(far)
+        .flat_map(|(count, room)| good(count, count).map(|case| Case { room, ..case }))
+        .collect()
 }
 
 /// One in 16 has another kind, lists of unequal length, or any pattern for its period; one turn in

@@ -105,12 +105,29 @@ impl Implementation for Otherwise {
     }
 }
 
-/// The library, with another writer of stem files.
-struct Writing(Writer);
+/// The archive, with a writer of stem files that takes some gauges for a good one, mends what it is
+/// handed, tells another number of it, or writes other bytes.
+struct Writing {
+    takes: Taker,
+    mend: Change<Handed>,
+    /// From what was handed and the archive's number, 0 for a file.
+    tell: Teller,
+    change: Change<Vec<u8>>,
+}
 
-type Writer = fn(Handed) -> Result<Vec<u8>, u8>;
+type Taker = fn(&Gauge) -> bool;
+type Teller = fn(&Handed, u8) -> u8;
+
+/// As the archive does it.
+const WRITING: Writing = Writing {
+    takes: |_| false,
+    mend: |_| (),
+    tell: |_, number| number,
+    change: |_| (),
+};
 
 /// What is handed over to be written, and how long the room is.
+#[derive(Clone)]
 struct Handed {
     gauge: Gauge,
     readings: Vec<u64>,
@@ -119,37 +136,26 @@ struct Handed {
 }
 
 impl Handed {
-    /// What the archive writes of it.
-    fn written(&self) -> Result<Vec<u8>, u8> {
-        Archive.write(self.gauge, &self.readings, &self.radii, self.room)
-    }
-
     /// How long its file is.
     fn length(&self) -> usize {
         26 + 16 * self.readings.len()
     }
 
-    /// What the archive writes where its points are so many, the first ones.
-    fn cut(mut self, points: usize) -> Result<Vec<u8>, u8> {
+    /// By how many places the one list is longer.
+    fn longer(&self) -> usize {
+        self.readings.len().abs_diff(self.radii.len())
+    }
+
+    fn resize(&mut self, points: usize) {
         self.readings.resize(points, 0);
         self.radii.resize(points, 0);
-        self.written()
     }
 
-    /// What the archive writes of other patterns.
-    fn with_patterns(mut self, change: fn(u64) -> u64) -> Result<Vec<u8>, u8> {
+    /// Every reading and every radius becomes another one.
+    fn map(&mut self, other: fn(u64) -> u64) {
         for pattern in self.readings.iter_mut().chain(&mut self.radii) {
-            *pattern = change(*pattern);
+            *pattern = other(*pattern);
         }
-        self.written()
-    }
-
-    /// What the archive writes for another gauge, if it is this one.
-    fn with_gauge(mut self, is_this: bool, gauge: Gauge) -> Result<Vec<u8>, u8> {
-        if is_this {
-            self.gauge = gauge;
-        }
-        self.written()
     }
 }
 
@@ -181,13 +187,27 @@ impl Implementation for Writing {
         radii: &[u64],
         room: usize,
     ) -> Result<Vec<u8>, u8> {
-        let (readings, radii) = (readings.to_vec(), radii.to_vec());
-        (self.0)(Handed {
+        let handed = Handed {
             gauge,
-            readings,
-            radii,
+            readings: readings.to_vec(),
+            radii: radii.to_vec(),
             room,
-        })
+        };
+        let mut mended = handed.clone();
+        (self.mend)(&mut mended);
+        if (self.takes)(&gauge) {
+            mended.gauge = Gauge {
+                kind: 1,
+                period: 1,
+                origin: 0,
+            };
+        }
+        let told = Archive.write(mended.gauge, &mended.readings, &mended.radii, mended.room);
+        let number = *told.as_ref().err().unwrap_or(&0);
+        let other = (self.tell)(&handed, number);
+        let mut file = if other == number { told } else { Err(other) }?;
+        (self.change)(&mut file);
+        Ok(file)
     }
 }
 
@@ -376,6 +396,290 @@ fn another_subtraction_is_noticed() {
 }
 
 #[test]
+fn one_wrong_written_file_is_noticed() {
+    type File = Result<Vec<u8>, u8>;
+    fn in_file(file: &mut File, change: Change<Vec<u8>>) {
+        change(file.as_mut().unwrap())
+    }
+    let changes: [(&str, Change<File>); 12] = [
+        ("number", |file| *file = Err(16)),
+        ("mark", |file| in_file(file, |file| file[2] ^= 1)),
+        ("version", |file| in_file(file, |file| file[4] ^= 1)),
+        ("kind", |file| in_file(file, |file| file[5] ^= 1)),
+        ("count", |file| in_file(file, |file| file[6] ^= 1)),
+        ("period", |file| in_file(file, |file| file[10] ^= 1)),
+        ("origin", |file| in_file(file, |file| file[18] ^= 1)),
+        ("reading", |file| in_file(file, |file| file[26] ^= 1)),
+        ("radius", |file| in_file(file, |file| file[34] ^= 1)),
+        ("last byte", |file| {
+            in_file(file, |file| *file.last_mut().unwrap() ^= 1)
+        }),
+        ("a byte less", |file| {
+            in_file(file, |file| file.truncate(file.len() - 1))
+        }),
+        ("a byte more", |file| in_file(file, |file| file.push(0))),
+    ];
+    for (what, change) in changes {
+        // a wrong file is noticed once more where it is opened
+        let times = if what == "number" { 1 } else { 2 };
+        let altered = Altered::file(change);
+        let (comparison, _) = writes::compare([&altered, &Second], Gauges::Safe, 0);
+        assert_eq!(comparison.different, times, "{what}");
+        let altered = Altered::file(change);
+        let different = writes::again([&altered, &Second], 0).different;
+        assert_eq!(different, 1, "{what}, again");
+    }
+}
+
+/// Of a file that was written, and of one that is to be written again.
+#[test]
+fn one_wrong_stem_that_is_written_is_noticed() {
+    fn in_file(stem: &mut Result<Stem, u8>, change: Change<Stem>) {
+        change(stem.as_mut().unwrap())
+    }
+    let changes: [(&str, Change<Result<Stem, u8>>); 4] = [
+        ("number", |stem| *stem = Err(14)),
+        ("period", |stem| {
+            in_file(stem, |stem| stem.gauge.period ^= 1)
+        }),
+        ("radius", |stem| {
+            in_file(stem, |stem| stem.points[0].radius ^= 1)
+        }),
+        ("order", |stem| in_file(stem, |stem| stem.points.reverse())),
+    ];
+    for (what, change) in changes {
+        let altered = Altered::stem(change);
+        let (comparison, _) = writes::compare([&altered, &Second], Gauges::Safe, 0);
+        assert_eq!(comparison.different, 1, "{what}");
+        let altered = Altered::stem(change);
+        let different = writes::again([&altered, &Second], 0).different;
+        assert_eq!(different, 1, "{what}, again");
+    }
+}
+
+const NEGATIVE: u64 = 1 << 63;
+const INFINITY: u64 = 0x7FF << 52;
+const QUIET: u64 = 1 << 51;
+
+fn is_infinite(pattern: u64) -> bool {
+    pattern & !NEGATIVE == INFINITY
+}
+
+fn is_quiet(pattern: u64) -> bool {
+    pattern & !NEGATIVE >= INFINITY | QUIET
+}
+
+fn is_signalling(pattern: u64) -> bool {
+    pattern & !NEGATIVE > INFINITY && !is_quiet(pattern)
+}
+
+/// The differences in what is written.
+fn in_written(pair: Pair) -> u64 {
+    writes::compare(pair, Gauges::Any, 1_000).0.different
+}
+
+/// Writers that take a gauge which is none, lists that are no points, or a room that is too short.
+#[test]
+fn a_lax_writer_is_noticed() {
+    let gauges: [(&str, Taker); 13] = [
+        ("kind 2", |gauge| gauge.kind == 2),
+        ("kind's upper bytes", |gauge| {
+            gauge.kind > 1 && gauge.kind & 0xFF < 2
+        }),
+        ("kind's uppermost byte", |gauge| {
+            gauge.kind > 1 && gauge.kind & 0xFF_FFFF < 2
+        }),
+        ("zero period", |gauge| gauge.period == 0),
+        ("negative zero period", |gauge| gauge.period == NEGATIVE),
+        ("negative period", |gauge| {
+            gauge.period > NEGATIVE && gauge.period < NEGATIVE | INFINITY
+        }),
+        ("infinite period", |gauge| is_infinite(gauge.period)),
+        ("quiet period", |gauge| is_quiet(gauge.period)),
+        ("signalling period", |gauge| is_signalling(gauge.period)),
+        ("turn's origin", |gauge| {
+            gauge.kind == 0 && gauge.origin != 0
+        }),
+        ("turn's negative zero", |gauge| {
+            gauge.kind == 0 && gauge.origin == NEGATIVE
+        }),
+        ("infinite origin", |gauge| {
+            gauge.kind == 1 && is_infinite(gauge.origin)
+        }),
+        ("origin's NaN", |gauge| {
+            gauge.kind == 1 && (is_quiet(gauge.origin) || is_signalling(gauge.origin))
+        }),
+    ];
+    let mendings: [(&str, Change<Handed>); 10] = [
+        ("radii", |handed| {
+            handed.radii.resize(handed.readings.len(), 0)
+        }),
+        ("readings", |handed| {
+            handed.readings.resize(handed.radii.len(), 0)
+        }),
+        ("lengths' upper bytes", |handed| {
+            if handed.longer() % 256 == 0 {
+                handed.resize(handed.readings.len());
+            }
+        }),
+        ("lengths' uppermost bytes", |handed| {
+            if handed.longer() % 65_536 == 0 {
+                handed.resize(handed.readings.len());
+            }
+        }),
+        ("a point too many", |handed| {
+            if handed.longer() == 0 && handed.readings.len() == 4001 {
+                handed.resize(4000);
+            }
+        }),
+        ("count's upper bytes", |handed| {
+            if handed.longer() == 0 {
+                handed.resize(handed.readings.len() % 65_536);
+            }
+        }),
+        ("a byte of the room", |handed| handed.room += 1),
+        ("a point of the room", |handed| handed.room += 16),
+        ("room's upper bytes", |handed| handed.room %= 256),
+        ("room's uppermost bytes", |handed| handed.room %= 65_536),
+    ];
+    assert_eq!(in_written([&WRITING, &Second]), 0);
+    for (what, takes) in gauges {
+        let lax = Writing { takes, ..WRITING };
+        assert!(in_written([&lax, &Second]) > 0, "{what}");
+    }
+    for (what, mend) in mendings {
+        let lax = Writing { mend, ..WRITING };
+        assert!(in_written([&lax, &Second]) > 0, "{what}");
+    }
+}
+
+/// Writers that refuse what is good, or tell another number first.
+#[test]
+fn another_refusal_of_a_write_is_noticed() {
+    let tellers: [(&str, Teller); 13] = [
+        ("no point", |handed, number| match number {
+            0 if handed.readings.is_empty() => 13,
+            _ => number,
+        }),
+        ("the most points", |handed, number| match number {
+            0 if handed.readings.len() == 4000 => 13,
+            _ => number,
+        }),
+        ("denormal periods", |handed, number| match number {
+            0 if handed.gauge.period < 1 << 52 => 15,
+            _ => number,
+        }),
+        ("negative origins", |handed, number| match number {
+            0 if handed.gauge.origin > NEGATIVE => 15,
+            _ => number,
+        }),
+        ("a room that fits", |handed, number| match number {
+            0 if handed.room == handed.length() => 16,
+            _ => number,
+        }),
+        ("a longer room", |handed, number| match number {
+            0 if handed.room > handed.length() => 16,
+            _ => number,
+        }),
+        ("kind before lengths", |handed, number| match number {
+            9 if handed.gauge.kind > 1 => 12,
+            _ => number,
+        }),
+        ("count before lengths", |handed, number| match number {
+            9 if handed.readings.len() > 4000 => 13,
+            _ => number,
+        }),
+        ("count before kind", |handed, number| match number {
+            12 if handed.readings.len() > 4000 => 13,
+            _ => number,
+        }),
+        ("gauge before kind", |handed, number| match number {
+            12 if handed.gauge.period > NEGATIVE => 15,
+            _ => number,
+        }),
+        ("gauge before count", |handed, number| match number {
+            13 if handed.gauge.period > NEGATIVE => 15,
+            _ => number,
+        }),
+        ("room before count", |handed, number| match number {
+            13 if handed.room < handed.length() => 16,
+            _ => number,
+        }),
+        ("room before gauge", |handed, number| match number {
+            15 if handed.room < handed.length() => 16,
+            _ => number,
+        }),
+    ];
+    for (what, tell) in tellers {
+        let otherwise = Writing { tell, ..WRITING };
+        assert!(in_written([&otherwise, &Second]) > 0, "{what}");
+    }
+}
+
+/// Writers of other points and of other bytes: by the second implementation, and where both are wrong
+/// alike by what was handed over, and by the file that was opened.
+#[test]
+fn another_written_file_is_noticed() {
+    let mendings: [(&str, Change<Handed>); 9] = [
+        ("lists exchanged", |handed| {
+            std::mem::swap(&mut handed.readings, &mut handed.radii)
+        }),
+        ("the last point first", |handed| {
+            handed.readings.reverse();
+            handed.radii.reverse();
+        }),
+        ("all readings first", |handed| {
+            let all = [&handed.readings[..], &handed.radii].concat();
+            handed.readings = all.iter().step_by(2).copied().collect();
+            handed.radii = all.iter().skip(1).step_by(2).copied().collect();
+        }),
+        ("no signalling NaN", |handed| {
+            handed.map(|x| if is_signalling(x) { x | QUIET } else { x })
+        }),
+        ("one quiet NaN", |handed| {
+            handed.map(|x| if is_quiet(x) { HOUSE_NAN } else { x })
+        }),
+        ("no infinities", |handed| {
+            handed.map(|x| x - u64::from(is_infinite(x)))
+        }),
+        ("no denormals", |handed| {
+            handed.map(|x| if x & INFINITY == 0 { x & NEGATIVE } else { x })
+        }),
+        ("no negative zeros", |handed| {
+            handed.map(|x| if x == NEGATIVE { 0 } else { x })
+        }),
+        ("readings as they are folded", |handed| {
+            let period = f64::from_bits(handed.gauge.period);
+            for reading in &mut handed.readings {
+                *reading = (f64::from_bits(*reading) % period).to_bits();
+            }
+        }),
+    ];
+    let changes: [(&str, Change<Vec<u8>>); 6] = [
+        ("mark", |file| file[..3].reverse()),
+        ("version", |file| file[3..5].reverse()),
+        ("count", |file| file[6..10].reverse()),
+        ("count's upper byte", |file| file[7] = 0),
+        ("period", |file| file[10..18].reverse()),
+        ("points", |file| {
+            file[26..].chunks_mut(8).for_each(<[u8]>::reverse)
+        }),
+    ];
+    let mended = mendings.map(|(what, mend)| (what, Writing { mend, ..WRITING }));
+    let changed = changes.map(|(what, change)| (what, Writing { change, ..WRITING }));
+    assert_eq!(writes::again([&WRITING, &WRITING], 1_000).different, 0);
+    for (what, otherwise) in mended.iter().chain(&changed) {
+        for beside in [&Second as &dyn Implementation, otherwise] {
+            let name = beside.name();
+            let pair = [otherwise, beside];
+            assert!(in_written(pair) > 0, "{what}, {name}");
+            let different = writes::again(pair, 1_000).different;
+            assert!(different > 0, "{what}, {name}, again");
+        }
+    }
+}
+
+#[test]
 fn one_wrong_field_of_a_file_is_noticed() {
     for (path, line, fields) in [
         ("computed/rem-x87.txt", 0, 2..7),
@@ -428,6 +732,11 @@ fn a_missing_case_is_noticed() {
     let [less, all] = [99, 100].map(|points| stems::folds(PAIR, points));
     assert_ne!(less.0.answers, all.0.answers, "points");
     assert_ne!(less.1, all.1, "cells of the points");
+    let [less, all] = [99, 100].map(|cases| writes::compare(PAIR, Gauges::Safe, cases));
+    assert_ne!(less.0.answers, all.0.answers, "written files");
+    assert_ne!(less.1, all.1, "cells of the written files");
+    let [less, all] = [99, 100].map(|files| writes::again(PAIR, files).answers);
+    assert_ne!(less, all, "files written again");
     let [less, all] = [1, 2].map(|n| half::compare(PAIR, &[1, 2][..n], &|_| ()).answers);
     assert_ne!(less, all, "half");
 }
@@ -444,6 +753,16 @@ fn a_wrong_cell_is_noticed() {
         assert_eq!(comparison.different, 0);
         assert_ne!(wrong, right);
     }
+}
+
+/// So do the cells of written files.
+#[test]
+fn a_wrong_cell_of_written_files_is_noticed() {
+    let (_, right) = writes::compare(PAIR, Gauges::Safe, 0);
+    let both = [(); 2].map(|_| Altered::file(|file| *file = Err(16)));
+    let (comparison, wrong) = writes::compare([&both[0], &both[1]], Gauges::Safe, 0);
+    assert_eq!(comparison.different, 0);
+    assert_ne!(wrong, right);
 }
 
 /// A size that is refused, told as a NaN. The sums of a list do not show it.
@@ -620,4 +939,63 @@ fn lists_that_are_written_wrongly_are_noticed() {
             "{results:?}, {quotients:?}, {told:?}"
         );
     }
+}
+
+/// Bytes from one before a room of 60 on, and what the writer tells.
+#[test]
+fn a_room_that_is_written_wrongly_is_noticed() {
+    for (written, told, number) in [
+        (0..0, Err(16), 16),
+        (1..2, Err(16), MISWROTE),
+        (60..61, Err(16), MISWROTE),
+        (0..1, Err(16), MISWROTE),
+        (61..62, Err(16), MISWROTE),
+        (1..27, Ok(26), 0),
+        (1..61, Ok(60), 0),
+        (0..27, Ok(26), MISWROTE),
+        (1..28, Ok(26), MISWROTE),
+        (60..61, Ok(26), MISWROTE),
+        (1..62, Ok(60), MISWROTE),
+        (1..62, Ok(61), MISWROTE),
+        (0..0, Ok(usize::MAX), MISWROTE),
+    ] {
+        let file = lent_room(60, |bytes, room| {
+            bytes[room.start - 1..][written.clone()].fill(0);
+            told
+        });
+        let expected = match number {
+            0 => Ok(vec![0; told.unwrap()]),
+            _ => Err(number),
+        };
+        assert_eq!(file, expected, "{written:?}, {told:?}");
+    }
+    // bytes behind the file that are moved by one place
+    let moved = lent_room(60, |bytes, room| {
+        bytes.copy_within(room.start + 26..room.end - 1, room.start + 27);
+        Ok(26)
+    });
+    assert_eq!(moved, Err(MISWROTE));
+}
+
+/// What a call writes to the place of the length and beside it, and what it returns.
+#[test]
+fn a_length_that_is_written_wrongly_is_noticed() {
+    for (written, returned, told) in [
+        (0..0, 16, Err(16)),
+        (1..2, 16, Err(MISWROTE)),
+        (0..1, 16, Err(MISWROTE)),
+        (2..3, 16, Err(MISWROTE)),
+        (1..2, 0, Ok(26)),
+        (0..2, 0, Err(MISWROTE)),
+        (1..3, 0, Err(MISWROTE)),
+    ] {
+        let length = lent_length(|places| {
+            places[written.clone()].fill(26);
+            returned
+        });
+        assert_eq!(length, told, "{written:?}, {returned}");
+    }
+    // one that is not written is the length of no file
+    let unwritten = lent_room(60, |_, _| lent_length(|_| 0));
+    assert_eq!(unwritten, Err(MISWROTE));
 }
