@@ -1,7 +1,7 @@
 /*
  * A host that opens a stem file, folds each of its points and prints it; then it is given a crafted file.
  *
- *   stem_file [FILE]    without a file, a sample that is made here
+ *   stem_file [FILE]    without a file, a sample that is written here
  *
  * What a file says of itself decides nothing here: it is read into a room for the longest one, and the library compares the count with the
  * length that was read.
@@ -13,11 +13,6 @@
 
 enum { LONGEST = ZK_STEM_HEADER + ZK_STEM_POINT * ZK_STEM_MOST };
 
-static void put(uint8_t *bytes, uint64_t number, int n) {
-    for (; n > 0; n--, number >>= 8)
-        *bytes++ = (uint8_t)number;
-}
-
 static uint64_t pattern_at(const uint8_t *bytes) {
     uint64_t pattern = 0;
     int i;
@@ -26,26 +21,18 @@ static uint64_t pattern_at(const uint8_t *bytes) {
     return pattern;
 }
 
-static void put_header(uint8_t *file, uint32_t count, double period, double origin) {
-    memcpy(file, "STM", 3);
-    put(file + 3, 1, 2);
-    put(file + 5, ZK_ROLLER, 1);
-    put(file + 6, count, 4);
-    put(file + 10, zk_pattern_of_double(period), 8);
-    put(file + 18, zk_pattern_of_double(origin), 8);
-}
-
-/* A roller of 812.5 mm whose gauge began at 100.25 mm. It lost the log at the last reading. Gives the length. */
-static size_t make_sample(uint8_t *file) {
+/* A roller of 812.5 mm whose gauge began at 100.25 mm. It lost the log at the last reading. Gives the length, or 0. */
+static size_t write_sample(uint8_t *room, size_t length) {
     static const double points[][2] = {{150.75, 161.5}, {3400.25, 158.25}, {-712.5, 155.0}, {1e15 + 0.125, 151.75}, {INFINITY, 150.0}};
-    const uint32_t count = sizeof points / sizeof *points;
-    uint32_t i;
-    put_header(file, count, 812.5, 100.25);
-    for (i = 0; i < count; i++) {
-        put(file + ZK_STEM_HEADER + ZK_STEM_POINT * i, zk_pattern_of_double(points[i][0]), 8);
-        put(file + ZK_STEM_HEADER + ZK_STEM_POINT * i + 8, zk_pattern_of_double(points[i][1]), 8);
+    enum { COUNT = sizeof points / sizeof *points };
+    uint64_t period = zk_pattern_of_double(812.5), origin = zk_pattern_of_double(100.25), readings[COUNT], radii[COUNT];
+    size_t i, written = 0;
+    for (i = 0; i < COUNT; i++) {
+        readings[i] = zk_pattern_of_double(points[i][0]);
+        radii[i] = zk_pattern_of_double(points[i][1]);
     }
-    return ZK_STEM_HEADER + ZK_STEM_POINT * count;
+    zk_stem_write(ZK_ROLLER, period, origin, readings, COUNT, radii, COUNT, room, length, &written); /* a refusal leaves the 0 */
+    return written;
 }
 
 /* No good file is longer than LONGEST bytes. Of a longer one a byte more is read: no count asks for that length, so it is refused. */
@@ -94,14 +81,16 @@ int main(int argc, char **argv) {
     size_t length;
     int refused;
     if (argc < 2) {
-        length = make_sample(file);
+        length = write_sample(file, sizeof file);
     } else if (!read_file(argv[1], file, &length)) {
         perror(argv[1]);
         return 2;
     }
     refused = fold_file(argc < 2 ? "the sample" : argv[1], file, length);
-    /* it says that 64 GiB of points follow, and none does */
-    put_header(crafted, 0xFFFFFFFF, 812.5, 0);
+    /* a header that says that 64 GiB of points follow, and none does */
+    write_sample(file, sizeof file);
+    memcpy(crafted, file, sizeof crafted);
+    memset(crafted + 6, 0xFF, 4);
     fold_file("a crafted file", crafted, sizeof crafted);
     return refused;
 }

@@ -8,17 +8,18 @@
  *
  *   - Every bit pattern is taken. A function always returns one of the numbers 0 to 16 below.
  *   - 0, 1 and 7 are answers: everything that the function promises has been written. All other numbers are refusals: what was lent is
- *     as it was, byte for byte, *value, *quotient, *marked, the block and the room included.
+ *     as it was, byte for byte, *value, *quotient, *marked, *written, the block and the room included.
  *   - Where several refusals apply, the first in the order 9, 6, 2, 3, 4, 5, 8 is returned; 7 comes after them. Stem files have an order
  *     of their own (zk_stem_open, zk_stem_write).
  *   - kind: 0 is the truncated remainder (C's fmod, the processor's FPREM), any other number is the nearest one (C's remainder, IEEE 754,
  *     FPREM1). The kind of a stem file is another thing: ZK_TURN or ZK_ROLLER, and no other number.
  *   - The host's duty, which no function can check: each pointer is not null, is aligned for its type, and points to memory that holds
- *     what it is lent for, also where a length is 0; and no two lent places overlap.
+ *     what it is lent for, also where a length is 0; and no place that is lent to be written overlaps another.
  *   - No function keeps a pointer, asks for memory or has state: calls from many threads do not meet. Values are computed in integers: no
  *     rounding mode and no flushing of denormals changes an answer, no status flag is touched, and no function traps, whatever exceptions
- *     the host has unmasked. One thing is left: zk_stem_open, zk_stem_fold and zk_stem_write compare doubles with themselves. Where
- *     one is a denormal, that sets the processor's denormal-operand flag, and traps if the host has unmasked this exception.
+ *     the host has unmasked. One thing is left: zk_stem_open, zk_stem_fold and zk_stem_write compare a period and an origin with
+ *     themselves as doubles, and zk_stem_fold a reading. Where one of them is a denormal, that sets the processor's denormal-operand flag,
+ *     and traps if the host has unmasked this exception.
  *
  * The archive is compiled for x86-64 Linux.
  *
@@ -199,14 +200,14 @@ uint8_t zk_stem_open(const uint8_t *file, size_t length, uint32_t *kind, uint64_
 uint8_t zk_stem_fold(uint32_t kind, uint64_t period, uint64_t origin, uint64_t *reading);
 
 /*
- * Writes a whole file to the front of the room: the gauge, and a point for each reading, with the radius at the same place of the other
- * list. Readings and radii may be any patterns, and every bit of them is written, a NaN's too. *written gets the length of the file,
- * 26 + 16 * nreadings; every byte of the room behind it stays as it was.
+ * Writes a whole file to the front of the room: the gauge, and a point for each of the nreadings readings, with the radius at the same
+ * place of the other list. Readings and radii may be any patterns, and every bit of them is written, a NaN's too. *written gets the length
+ * of the file, 26 + 16 * nreadings; every byte of the room behind it stays as it was. length is how many bytes the room has.
  * zk_stem_open takes the file, with the same gauge and the same points. A file that zk_stem_open takes, written again with the gauge and
  * the points that it has, is the same file.
  * Refuses with the first that applies of 9 (nreadings is not nradii), 12 (a kind above 1), 13 (more than ZK_STEM_MOST points), 15 (a gauge
- * that zk_stem_open would refuse, a turn with an origin other than 0 among them) and 16 (length is less than the file has), and then
- * writes nothing, neither room nor *written.
+ * that zk_stem_open would refuse, a turn with an origin other than 0 among them) and 16 (length is less than the file has). It then
+ * writes nothing, neither room nor *written, and reads nothing of the lists.
  */
 uint8_t zk_stem_write(uint32_t kind, uint64_t period, uint64_t origin, const uint64_t *readings, size_t nreadings, const uint64_t *radii,
                       size_t nradii, uint8_t *room, size_t length, size_t *written);
