@@ -12,7 +12,7 @@ use Rattle.definitions.specs.Division.{finish}
 use Rattle.definitions.specs.Remainder.{remainder}
 use Rattle.definitions.specs.Difference.{difference}
 use Rattle.definitions.specs.Stem.{Gauge, turn, roller, good, goodFields, stem, opened, refused, handing, pointAt, foldReading, foldPoint}
-use Rattle.definitions.specs.StemWriter.{pointsOf, pointsIn, stemFile, writing, Written, writeFields, writeStem}
+use Rattle.definitions.specs.StemWriter.{pointsOf, pointsIn, stemFile, writing, writeFields, writeStem}
 
 -- ---- [11.9] x less y is z: signs and zeros, ties and what lies past them, denormals, the end of the range, infinities and NaNs
 pub record Row : Type 0 where

@@ -1,6 +1,6 @@
 -- A gauge that is good passes its floats: its patterns come back as they were. Assumes nothing.
-use mathlib.Core.Path.{_≡_, refl, sym, ap, _∙_}
-use mathlib.Core.Bool.{true, false, not, _&&_, _||_}
+use mathlib.Core.Path.{_≡_, refl, ap, _∙_}
+use mathlib.Core.Bool.{true, false, not, _||_}
 use Prim.Native.Nat.{ℕ, _<_, _^_}
 use borrow.Author.Tests.{not-true}
 use Rattle.definitions.specs.Class.{Class, unsupported, nan, infinite, finite}

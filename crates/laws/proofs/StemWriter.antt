@@ -3,7 +3,7 @@
 use mathlib.Core.Path.{_≡_, refl, sym, ap, _∙_}
 use mathlib.Core.Bool.{Bool, true, false, not, cond}
 use mathlib.Core.List.{List, [], _∷_, _++_}
-use Prim.Native.Nat.{ℕ, zero, suc, _+_, _*_, _/_, _%_, _^_, _≤_, _<_}
+use Prim.Native.Nat.{ℕ, zero, suc, _+_, _*_, _/_, _^_, _≤_, _<_}
 use native.Mathlib.Nat.{add-zero, add-suc, suc-add, mod-eq-of-lt, lt-of-le-of-lt}
 use native.Mathlib.Omega.{arith}
 use borrow.Author.Tests.{eqb-true, eqb-false, eq-eqb, ne-eqb, ltb-false, le-ltb, not-false}
@@ -12,11 +12,11 @@ use lib.ListN.{length, getD, take, drop, length-append, length-drop, take-append
 use lib.Seq.{take-at, drop-at, drop-drop}
 use Rattle.digits.proofs.Tests.{clash}
 use Rattle.definitions.specs.Numbers.{Check, first}
-use Rattle.definitions.specs.Bytes.{bytesOf, ofBytes, loaded}
-use Rattle.definitions.specs.Stem.{Gauge, turn, roller, Point, gaugeOf, kindOf, periodOf, originOf, good, goodFields, headerLength, pointLength, pointLimit, fileKind, fileCount, filePeriod, fileOrigin, judging, opened, stem, stemNumber, pointAt, handing}
+use Rattle.definitions.specs.Bytes.{bytesOf, loaded}
+use Rattle.definitions.specs.Stem.{Gauge, Point, gaugeOf, kindOf, periodOf, originOf, good, goodFields, headerLength, pointLength, pointLimit, fileKind, fileCount, filePeriod, fileOrigin, judging, opened, stem, stemNumber, pointAt, handing}
 use Rattle.definitions.specs.StemWriter.{pointsOf, pointsFrom, pointsIn, header, headerOf, pointBytes, stemFile, writing, Written, writeFields, writeStem}
-use Rattle.laws.proofs.Bytes.{AreBytes, length-bytes, of-bytes, drop-bytes}
-use Rattle.laws.proofs.Stem.{Row, Passed, passed, stem-number, stem-opened, none-first, Held, held, gauge-back, kind-small, opened-file, file-opened, file-number, row-long, point-bytes, handing-number}
+use Rattle.laws.proofs.Bytes.{AreBytes, of-bytes, drop-bytes}
+use Rattle.laws.proofs.Stem.{Row, passed, stem-number, stem-opened, none-first, Held, held, gauge-back, kind-small, opened-file, file-opened, file-number, row-long, point-bytes, handing-number}
 
 -- ---- the claim
 

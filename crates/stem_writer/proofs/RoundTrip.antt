@@ -7,7 +7,7 @@ use native.Mathlib.Nat.{zero-add}
 use native.Mathlib.Omega.{arith}
 use borrow.Author.Tests.{leb-true, leb-false, lt-leb, le-leb}
 use lib.Dec.{T, leb, lit<}
-use lib.Ieee.{Float, binary64, fits, toBits}
+use lib.Ieee.{binary64, fits}
 use lib.Ieee.Bits.{ofBits-toBits, toBits-lt}
 use lib.ListN.{length, getD, take, drop}
 use Rattle.digits.proofs.Tests.{clash}
@@ -16,8 +16,8 @@ use Rattle.definitions.specs.Stem as definition
 use Rattle.definitions.specs.Stem.{pointLength, gaugeOf, kindOf, periodOf, originOf, Stem, opened, refused, stem, stemPoints, pointAt}
 use Rattle.definitions.specs.StemWriter.{pointsOf, pointsFrom, pointsIn, writing, Written, writeFields, writeStem}
 use Rattle.laws.proofs.Bytes.{AreBytes}
-use Rattle.laws.proofs.Stem.{Row, opened-file}
-use Rattle.laws.proofs.StemWriter.{ArePatterns, ReadsAs, Accepted, accepted, write-number, call-reads-back, call-written-again, length-from, length-pairs, place-back, places-list}
+use Rattle.laws.proofs.Stem.{opened-file}
+use Rattle.laws.proofs.StemWriter.{ArePatterns, ReadsAs, accepted, write-number, call-reads-back, call-written-again, length-from, length-pairs, place-back, places-list}
 use Rattle.gauges.specs.declared.Gauge.{Gauge}
 use Rattle.gauges.specs.declared.Gauge.the-variants.{Turn, Roller}
 use Rattle.gauges.specs.Held.{gaugeHeld, gaugeBits}

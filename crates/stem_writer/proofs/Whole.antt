@@ -12,14 +12,13 @@ use lib.ListN.{length, drop}
 use lib.Seq.{sets, sets-eq}
 use Rattle.definitions.specs.Numbers.{first}
 use Rattle.definitions.specs.Stem.{gaugeOf, headerLength, pointLength}
-use Rattle.definitions.specs.Stem as definition
-use Rattle.definitions.specs.StemWriter.{pointsOf, header, headerOf, pointBytes, stemFile, writing, Written, writeFields, writeStem}
+use Rattle.definitions.specs.StemWriter.{pointsOf, header, pointBytes, stemFile, writing, Written, writeFields, writeStem}
 use Rattle.stem_writer.proofs.Stores.{sets-more}
 use Rattle.gauges.specs.Held.{gaugeBits}
 use Rattle.gauges.specs.declared.Gauge.{Gauge}
 use Rattle.gauges.specs.declared.Gauge.the-variants.{Turn, Roller}
-use Rattle.laws.proofs.Stem.{Held, held}
-use Rattle.laws.proofs.StemWriter.{header-held, Accepted, accepted, length-pairs, length-file}
+use Rattle.laws.proofs.Stem.{held}
+use Rattle.laws.proofs.StemWriter.{header-held, accepted, length-pairs, length-file}
 
 module _ (kind period origin : ℕ) (readings radii room : List ℕ) where
   abbrev pub number : ℕ

@@ -1,14 +1,14 @@
 -- What a file's number says of it, and the patterns at a place as floats. Assumes nothing.
 use mathlib.Core.Path.{_≡_, refl, sym, ap, _∙_}
 use mathlib.Core.Bool.{Bool, true, false, cond}
-use mathlib.Core.List.{List, _∷_}
+use mathlib.Core.List.{List}
 use Prim.Native.Nat.{ℕ, _/_}
 use lib.Dec.{leb, eqb}
 use lib.Ieee.{binary64, ofBits}
-use lib.ListN.{length, drop}
+use lib.ListN.{length}
 use borrow.Author.Tests.{ne-eqb, eqb-true, eqb-false}
 use Rattle.definitions.specs.Numbers.{first}
-use Rattle.definitions.specs.Stem.{headerLength, pointLength, fileKind, filePeriod, fileOrigin, gaugeOf, judging, stem, opened, refused, pointAt}
+use Rattle.definitions.specs.Stem.{pointLength, judging, stem, refused, pointAt}
 use Rattle.digits.proofs.Tests.{clash}
 use Rattle.laws.proofs.Stem.{stem-opened}
 use Rattle.gauges.specs.declared.Gauge.{Gauge}

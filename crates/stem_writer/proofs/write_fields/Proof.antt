@@ -1,5 +1,5 @@
 -- `write_fields` meets its contract: what is accepted fits, and is written. Assumes nothing.
-use mathlib.Core.Path.{_≡_, sym, _∙_}
+use mathlib.Core.Path.{sym, _∙_}
 use native.Mathlib.Omega.{arith}
 use lib.ListN.{length}
 use Rattle.laws.proofs.StemWriter.{Accepted, accepted}

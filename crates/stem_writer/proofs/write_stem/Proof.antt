@@ -1,5 +1,5 @@
 -- `write_stem` meets its contract: the fields of the gauge are handed on. Assumes nothing.
-use mathlib.Core.Path.{_≡_, sym, _∙_}
+use mathlib.Core.Path.{sym, _∙_}
 use Rattle.stem_writer.proofs.Whole.{turn-call, roller-call}
 use borrow.Author.Needs.{needs}
 use Rattle.stem_writer.proofs.write_stem.Statement.{statement}

@@ -1,5 +1,5 @@
 -- `point_at` meets its contract: the floats of the patterns there. Assumes nothing.
-use mathlib.Core.Path.{_≡_, sym, ap, _∙_}
+use mathlib.Core.Path.{sym, _∙_}
 use Rattle.stems.proofs.Opened.{floats-past, floats-at}
 use borrow.Author.Needs.{needs}
 use Rattle.stems.proofs.point_at.Statement.{statement}
