@@ -365,6 +365,7 @@ stem_writer 2000 | stem-write-most-is-3999                      | ^a count: the 
 stem_writer 2000 | stem-write-no-points-refused                 | ^a count: the number
 stem_writer 2000 | stem-write-most-is-4001                      | ^a count: the number
 stem_writer 2000 | stem-write-most-is-4001                      | ^a count: the room of a refused call
+stem_writer 2000 | stem-write-refusal-written-and-put-back      | ^a count: the room is written
 stem_writer 2000 | stem-write-last-point-missing                | ^a count: the file
 stem_writer 2000 | stem-write-last-radius-missing               | ^a count: the file
 stem_writer 2000 | stem-write-list-after-list                   | ^a count: the file
@@ -391,6 +392,7 @@ stem_writer 2000 | stem-write-writes-behind-the-radii           | ^a count: the 
 stem_writer 2000 | stem-write-room-of-a-byte-less               | ^a room: the number
 stem_writer 2000 | stem-write-room-of-a-byte-more-asked         | ^a room: the number
 stem_writer 2000 | stem-write-header-before-the-room-is-judged  | ^a room: the room of a refused call
+stem_writer 2000 | stem-write-short-room-header-put-back        | ^a room: the room is written
 stem_writer 2000 | stem-write-refusal-writes-the-length         | ^a room: an output is touched
 stem_writer 2000 | stem-write-a-byte-more                       | ^a room: the room behind the file
 stem_writer 2000 | stem-write-rest-cleared                      | ^a room: the room behind the file
@@ -399,10 +401,12 @@ stem_writer 2000 | stem-write-length-of-the-room                | ^a room: refus
 stem_writer 2000 | stem-write-shorter-list-taken                | ^unequal lists: the number
 stem_writer 2000 | stem-write-lists-compared-in-32-bits         | ^unequal lists: the number
 stem_writer 2000 | stem-write-lists-compared-in-32-bits         | ^unequal lists: the room of a refused call
+stem_writer 2000 | stem-write-refusal-written-and-put-back      | ^unequal lists: the room is written
 stem_writer 2000 | stem-write-reads-a-radius-for-each-reading   | ^unequal lists: a byte outside of the radii
 stem_writer 2000 | stem-write-reads-the-last-of-any-count       | ^unequal lists: a byte outside of all
 stem_writer 2000 | stem-write-kind-cut-to-a-byte                | ^a kind: the number
 stem_writer 2000 | stem-write-kind-cut-to-24-bits               | ^a kind: the number
+stem_writer 2000 | stem-write-refusal-written-and-put-back      | ^a kind: the room is written
 stem_writer 2000 | stem-write-zero-period                       | ^a gauge: the number
 stem_writer 2000 | stem-write-minus-zero-period                 | ^a gauge: the number
 stem_writer 2000 | stem-write-negative-period                   | ^a gauge: the number
@@ -415,6 +419,7 @@ stem_writer 2000 | stem-write-turn-has-a-minus-zero             | ^a gauge: the 
 stem_writer 2000 | stem-write-infinite-origin                   | ^a gauge: the number
 stem_writer 2000 | stem-write-nan-origin                        | ^a gauge: the number
 stem_writer 2000 | stem-write-refusal-wipes-the-room            | ^a gauge: the room of a refused call
+stem_writer 2000 | stem-write-refusal-written-and-put-back      | ^a gauge: the room is written
 stem_writer 2000 | stem-write-period-and-origin-exchanged       | ^a gauge: another gauge by zk_stem_open
 stem_writer 2000 | stem-write-negative-radius-refused           | ^a class of point: the number
 stem_writer 2000 | stem-write-quiet-reading                     | ^a class of point: the file
@@ -429,6 +434,8 @@ stem_writer 2000 | stem-write-count-before-kind                 | ^faults togeth
 stem_writer 2000 | stem-write-gauge-before-count                | ^faults together: the number
 stem_writer 2000 | stem-write-room-before-count                 | ^faults together: the number
 stem_writer 2000 | stem-write-room-before-gauge                 | ^faults together: the number
+stem_writer 2000 | stem-write-refusal-written-and-put-back      | ^faults together: the room is written
+stem_writer 2000 | stem-write-short-room-header-put-back        | ^a refusal: the room is written
 stem_writer 2000 | stem-write-count-cut-to-16-bits              | ^a far count: the number
 stem_writer 2000 | stem-write-count-cut-to-32-bits              | ^a far count: the number
 stem_writer 2000 | stem-write-product-of-32-bits                | ^a far count: the number
@@ -437,13 +444,16 @@ stem_writer 2000 | stem-write-reads-the-last-of-any-count       | ^a far count: 
 stem_writer 2000 | stem-write-room-cut-to-32-bits               | ^a long room: the number
 stem_writer 2000 | stem-write-a-byte-more                       | ^a long room: the room behind the file
 stem_writer 2000 | stem-write-rest-cleared                      | ^a long room: a byte outside of the room
+stem_writer 2000 | stem-write-refusal-written-and-put-back      | ^a long room: the room is written
 stem_writer 2000 | stem-write-asks-for-memory                   | ^little memory: the number
 stem_writer 2000 | stem-write-keeps-memory                      | ^little memory: the process has grown
 stem_writer 2000 | stem-write-some-denormals-refused            | ^a random call: the number
 stem_writer 2000 | stem-write-period-of-the-call-before         | ^a random call: another gauge by zk_stem_open
+stem_writer 2000 | stem-write-short-room-header-put-back        | ^a random call: the room is written
 stem_writer 2000 | stem-write-version-of-one-byte               | ^a random file: refused by zk_stem_open
 stem_writer 2000 | stem-write-quiet-radius                      | ^a random file: another file than was opened
 stem_writer 1 2  | none                                         | drawn calls: .* has no case
+stem_writer 1 2  | none                                         | rooms that can only be read: .* has no case
 stem_writer 1 2  | none                                         | ^readings: .* has no case
 stem_writer 1 2  | none                                         | ^radii: .* has no case
 stem_writer 1 2  | none                                         | ^files: .* has no case

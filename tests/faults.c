@@ -892,8 +892,10 @@ static int told_otherwise(const struct task *t, uint8_t *number) {
     return *number != before;
 }
 
-/* What a refusal writes. */
+/* What a refusal writes, though it may put it back. */
 static void write_all_the_same(const struct task *t, uint8_t number, size_t *written) {
+    volatile uint8_t *first = t->room;
+    uint8_t header[26];
     size_t none;
     if (fault("stem-write-refusal-writes-the-length") && number == ZK_STEM_ROOM)
         *written = file_length(t);
@@ -901,6 +903,15 @@ static void write_all_the_same(const struct task *t, uint8_t number, size_t *wri
         real_zk_stem_write(t->kind, t->period, t->origin, t->readings, 0, t->radii, 0, t->room, 26, &none);
     if (fault("stem-write-refusal-wipes-the-room") && number == ZK_STEM_GAUGE)
         memset(t->room, 0, t->length);
+    if (fault("stem-write-refusal-written-and-put-back") && t->length > 0) {
+        *first ^= 0xFF;
+        *first ^= 0xFF;
+    }
+    if (fault("stem-write-short-room-header-put-back") && number == ZK_STEM_ROOM && t->length > 25) {
+        memcpy(header, t->room, 26);
+        real_zk_stem_write(t->kind, t->period, t->origin, t->readings, 0, t->radii, 0, t->room, 26, &none);
+        memcpy(t->room, header, 26);
+    }
 }
 
 static uint64_t spoilt(uint64_t pattern, int made_quiet) {

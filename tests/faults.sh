@@ -11,8 +11,8 @@ shift 2
 programs='untouched stems stem_writer modes chains fold ldexp libm half fprem'
 comparisons='--test folds --test half --test halves --test lists --test published --test readings --test runs --test sequence --test stems --test vectors'
 # what a refusal writes into a single lent number stays inside the safe Rust functions, which have no kind but 0 and 1 and no turn with an
-# origin; lists, blocks, files and rooms of 2^32 places, what lies outside of a file, a list or a room, memory and floating-point
-# environments are not for a test in Rust
+# origin; lists, blocks, files and rooms of 2^32 places, what lies outside of a file, a list or a room, bytes that are written and put
+# back, memory and floating-point environments are not for a test in Rust
 c_only='rem16-refusal-writes rem64-refusal-writes scale16-refusal-writes scale80-refusal-writes split64-refusal-writes fold-refusal-writes
     rem16-only-1-is-nearest step-only-1-is-nearest run-only-1-is-nearest fold-only-1-is-nearest rem32-other-kinds-write-more
     step-length-cut-to-32-bits run-length-cut-to-32-bits fold-lengths-compared-in-32-bits
@@ -31,6 +31,7 @@ c_only='rem16-refusal-writes rem64-refusal-writes scale16-refusal-writes scale80
     stem-write-room-cut-to-32-bits stem-write-reads-a-reading-more stem-write-reads-a-reading-before stem-write-reads-a-radius-more
     stem-write-reads-a-radius-before stem-write-reads-a-radius-for-each-reading stem-write-reads-the-last-of-any-count
     stem-write-reads-behind-the-room stem-write-writes-before-the-readings stem-write-writes-behind-the-radii
+    stem-write-refusal-written-and-put-back stem-write-short-room-header-put-back
     stem-write-asks-for-memory stem-write-keeps-memory stem-write-period-compared-by-the-processor'
 c_only=$(echo $c_only)
 

@@ -6,6 +6,9 @@
  * Every call is made twice, with two fillings of the room and of what is lent for the length, so that no byte is right by chance, and in
  * two places: the room and both lists end where unreadable pages begin, then begin where some end. A byte that is read or written outside
  * of them is seen there. All that is lent is looked at afterwards, the lists and the bytes beside them too.
+ *
+ * A call that is to be refused is made in each of these places once more, with a room in pages that can only be read: it may not write a
+ * byte, not even one that it puts back.
  */
 #define _GNU_SOURCE
 #include "stems.h"
@@ -65,6 +68,7 @@ enum { ZEROS, DENORMALS, NORMALS, INFINITIES, QUIET, SIGNALLING, SORTS };
 static const char *const sort_names[SORTS] = {"zero", "denormal", "normal", "infinity", "quiet NaN", "signalling NaN"};
 
 static uint64_t calls, numbers[NUMBERS], sorts_of_readings[2][SORTS], sorts_of_radii[2][SORTS], opened[2], again[2];
+static uint64_t shut_calls, shut_numbers[NUMBERS], shut_kinds[2]; /* on rooms that can only be read and have a byte */
 
 static int sort_of(uint64_t pattern) {
     uint64_t magnitude = pattern & ~sign64;
@@ -86,9 +90,20 @@ static void count_task(const struct task *t) {
     }
 }
 
+static void count_shut(const struct task *t, uint8_t number) {
+    if (t->length == 0)
+        return;
+    shut_calls++;
+    shut_numbers[number]++;
+    if (t->kind < 2)
+        shut_kinds[t->kind]++;
+}
+
 static void forget_counts(void) {
-    calls = 0;
+    calls = shut_calls = 0;
     memset(numbers, 0, sizeof numbers);
+    memset(shut_numbers, 0, sizeof shut_numbers);
+    memset(shut_kinds, 0, sizeof shut_kinds);
     memset(sorts_of_readings, 0, sizeof sorts_of_readings);
     memset(sorts_of_radii, 0, sizeof sorts_of_radii);
     memset(opened, 0, sizeof opened);
@@ -113,15 +128,32 @@ static void print_sorts(const char *of, uint64_t (*sorts)[SORTS]) {
     printf("\n");
 }
 
-static void print_counts(void) {
-    static const uint8_t all[] = {0, 9, 12, 13, 15, 16};
-    static const char *const names[] = {"written", "number 9", "number 12", "number 13", "number 15", "number 16"};
+static void print_refusals(const uint64_t *of) {
+    static const uint8_t all[] = {9, 12, 13, 15, 16};
+    static const char *const names[] = {"number 9", "number 12", "number 13", "number 15", "number 16"};
     size_t i;
+    for (i = 0; i < sizeof all / sizeof *all; i++)
+        print_count("", names[i], of[all[i]]);
+}
+
+static void print_shut(void) {
+    if (!CAN_SHUT)
+        return;
+    next_part();
+    printf("%" PRIu64 " refused calls on rooms that can only be read:", shut_calls);
+    print_refusals(shut_numbers);
+    print_count("", "turn", shut_kinds[ZK_TURN]);
+    print_count("", "roller", shut_kinds[ZK_ROLLER]);
+    printf("\n");
+}
+
+static void print_counts(void) {
     next_part();
     printf("%" PRIu64 " drawn calls:", calls);
-    for (i = 0; i < sizeof all / sizeof *all; i++)
-        print_count("", names[i], numbers[all[i]]);
+    print_count("", "written", numbers[0]);
+    print_refusals(numbers);
     printf("\n");
+    print_shut();
     print_sorts("readings", sorts_of_readings);
     print_sorts("radii", sorts_of_radii);
     next_part();
@@ -135,7 +167,7 @@ static void print_counts(void) {
 
 /* ---- the library on a task */
 
-static struct area around_readings, around_radii, around_room;
+static struct area around_readings, around_radii, around_room, shut_room;
 
 static int tell(const char *what, const struct task *t) {
     if (!differs())
@@ -159,6 +191,7 @@ struct trial {
     const uint8_t *file; /* the one that was opened, if it is written again */
     struct area area;    /* of the room */
     int end;
+    int is_shut;  /* the room can only be read */
     size_t shown; /* how many bytes of the room are looked at */
     uint8_t *lent;
     const uint64_t *readings, *radii;
@@ -222,20 +255,48 @@ static void compare_lent(const void *trial) {
         printf("  zukemoriha %lu, expected %lu\n", (unsigned long)got.length, (unsigned long)t->want.length);
     if (got.touched)
         tell("an output is touched", k);
-    compare_room(t);
+    if (!t->is_shut)
+        compare_room(t);
     compare_list(t, t->readings, readings, k->nreadings, around_readings, "the readings are changed");
     compare_list(t, t->radii, radii, k->nradii, around_radii, "the radii are changed");
     if (got.number == 0 && t->want.number == 0)
         compare_opened(t, got.length);
 }
 
-static void compare_at(struct area *area, int end, size_t shown, const struct task *k, const uint8_t *file) {
+static void tell_outside(struct area area, const struct task *k) {
+    tell(is_outside_of(area)              ? "a byte outside of the room"
+         : is_outside_of(around_readings) ? "a byte outside of the readings"
+         : is_outside_of(around_radii)    ? "a byte outside of the radii"
+                                          : "a byte outside of all that is lent",
+         k);
+}
+
+/* The call of a trial that is to be refused, on a room that can only be read: its first write is seen, and the call ends there. */
+static void compare_shut(struct trial t, struct area area) {
+    const struct task *k = t.task;
+    if (!CAN_SHUT)
+        return;
+    t.area = area;
+    t.is_shut = 1;
+    t.lent = place_at(area, t.end, k->length);
+    count_shut(k, t.want.number);
+    if (stays_inside(compare_lent, &t))
+        return;
+    if (is_touched(t.lent, k->length))
+        tell("the room is written", k);
+    else
+        tell_outside(area, k);
+}
+
+/* One call in the first area, and if it is to be refused another in the second, which can only be read. */
+static void compare_at(struct area *area, struct area shut, int end, size_t shown, const struct task *k, const uint8_t *file) {
     static uint8_t before[LONGEST_ROOM];
     struct trial t;
     memset(before, filling, shown);
     t.task = k;
     t.file = file;
     t.end = end;
+    t.is_shut = 0;
     t.shown = shown;
     t.lent = lend_at(area, end, before, shown);
     t.area = *area;
@@ -243,18 +304,16 @@ static void compare_at(struct area *area, int end, size_t shown, const struct ta
     t.radii = (const uint64_t *)(const void *)lend_at(&around_radii, end, radii, 8 * places(k->nradii));
     t.want = expected(k, shown);
     if (!stays_inside(compare_lent, &t))
-        tell(is_outside_of(*area)             ? "a byte outside of the room"
-             : is_outside_of(around_readings) ? "a byte outside of the readings"
-             : is_outside_of(around_radii)    ? "a byte outside of the radii"
-                                              : "a byte outside of all that is lent",
-             k);
+        tell_outside(*area, k);
+    if (t.want.number)
+        compare_shut(t, shut);
 }
 
 static void compare_again(struct task k, const uint8_t *file) {
     int end;
     count_task(&k);
     for (end = 0; end < ENDS; end++, filling ^= 0xFF)
-        compare_at(&around_room, end, k.length, &k, file);
+        compare_at(&around_room, shut_room, end, k.length, &k, file);
 }
 
 static void compare_task(struct task k) {
@@ -391,6 +450,25 @@ static void faults_together(void) {
                     }
 }
 
+/* Each refusal in rooms from no byte to many pages, some of them a byte shorter or longer than a page. The last one holds any file. */
+static void refusals(void) {
+    static const size_t lengths[] = {0, 1, HEADER - 1, HEADER, HEADER + 1, 4095, 4096, 4097, 3 * 4096, 5 * 4096 + 1, LONGEST_ROOM};
+    uint32_t kind;
+    size_t i;
+    for (kind = 0; kind < 2; kind++)
+        for (i = 0; i < sizeof lengths / sizeof *lengths; i++) {
+            struct task lists = good_task(kind, 1, lengths[i]), no_kind = lists, no_gauge = lists;
+            lists.nradii++;
+            no_kind.kind += 2;
+            no_gauge.period = 0;
+            compare_task(lists);
+            compare_task(no_kind);
+            compare_task(good_task(kind, MOST + 1, lengths[i]));
+            compare_task(no_gauge);
+            compare_task(good_task(kind, MOST, lengths[i]));
+        }
+}
+
 /* Counts whose length, or the bytes of whose lists, wrap to something small in 32 or in 64 bits: the room is as long as that. */
 static void far_count(uint32_t kind, size_t count) {
     const size_t wrapped[] = {(uint32_t)length_of(count), length_of(count), length_of(places(count))};
@@ -428,7 +506,7 @@ static void long_rooms(void) {
     const size_t far = (size_t)1 << 32, lengths[] = {far, far + 1, far + HEADER, far + HEADER + POINT - 1, far + HEADER + POINT};
     const size_t all = 2 * far;
     uint8_t *first = (uint8_t *)mmap(NULL, all, PROT_READ, MAP_PRIVATE | MAP_ANONYMOUS | MAP_NORESERVE, -1, 0);
-    struct area area = {first, first + all};
+    struct area area = {first, first + all}, shut = {first + WRITABLE, first + all};
     size_t i;
     if (first == MAP_FAILED || mprotect(first, WRITABLE, PROT_READ | PROT_WRITE)) {
         printf("no place for a long room: not tried\n");
@@ -438,10 +516,10 @@ static void long_rooms(void) {
         struct task good = good_task(i & 1, 1, lengths[i]), many = good_task(i & 1, MOST + 1, lengths[i]);
         count_task(&good);
         count_task(&many);
-        compare_at(&area, AT_FIRST, SHOWN, &good, NULL);
+        compare_at(&area, shut, AT_FIRST, SHOWN, &good, NULL);
         filling ^= 0xFF;
-        compare_at(&area, AT_FIRST, SHOWN, &good, NULL);
-        compare_at(&area, AT_FIRST, SHOWN, &many, NULL);
+        compare_at(&area, shut, AT_FIRST, SHOWN, &good, NULL);
+        compare_at(&area, shut, AT_FIRST, SHOWN, &many, NULL);
     }
     munmap(first, all);
 #endif
@@ -480,6 +558,7 @@ static void written_tasks(void) {
     try_part("a gauge", gauges);
     try_part("a class of point", classes_of_points);
     try_part("faults together", faults_together);
+    try_part("a refusal", refusals);
     try_part("a far count", far_tasks);
     try_part("a long room", long_rooms);
     try_part("little memory", little_memory);
@@ -563,8 +642,11 @@ int main(int argc, char **argv) {
     around_readings = area_of(sizeof readings);
     around_radii = area_of(sizeof radii);
     around_room = area_of(LONGEST_ROOM);
+    shut_room = area_of(LONGEST_ROOM);
+    shut_area(shut_room);
     written_tasks();
     printf("%" PRIu64 " calls, %" PRIu64 " files written\n", calls, numbers[0]);
+    print_shut();
     forget_counts();
     random_tasks(cases, seed);
     random_files(cases, seed);

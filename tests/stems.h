@@ -1,9 +1,10 @@
 /*
- * What the tests of stem files share: files and a judge of their gauges, places that end or begin at an unreadable page, and a limit of
- * memory.
+ * What the tests of stem files share: files and a judge of their gauges, places that end or begin at an unreadable page, or whose own
+ * pages can only be read, and a limit of memory.
  *
- * With the address sanitizer (make test-sanitized) a place is a block of the heap of its length: the archive is not instrumented, so that
- * what the library reads and writes is not seen, but what a host does is, which takes bytes from where it is told to.
+ * With the address sanitizer (make test-sanitized) a place is a block of the heap of its length, which can always be written: the archive
+ * is not instrumented, so that what the library reads and writes is not seen, but what a host does is, which takes bytes from where it is
+ * told to.
  */
 #ifndef STEMS_H
 #define STEMS_H
@@ -194,6 +195,22 @@ static inline int is_outside_of(struct area a) {
     return 0;
 }
 
+enum { CAN_SHUT = 0 };
+
+static inline void shut_area(struct area a) {
+    (void)a;
+}
+
+static inline uint8_t *place_at(struct area a, int end, size_t n) {
+    (void)end, (void)n;
+    return a.block;
+}
+
+static inline int is_touched(const uint8_t *place, size_t n) {
+    (void)place, (void)n;
+    return 0;
+}
+
 static inline int stays_inside(void (*run)(const void *), const void *what) {
     run(what);
     return 1;
@@ -237,8 +254,12 @@ static inline struct area area_of(size_t bytes) {
     return a;
 }
 
+static inline uint8_t *place_at(struct area a, int end, size_t n) {
+    return end == AT_WALL ? a.wall - n : a.first;
+}
+
 static inline uint8_t *lend_at(struct area *a, int end, const void *bytes, size_t n) {
-    uint8_t *lent = end == AT_WALL ? a->wall - n : a->first;
+    uint8_t *lent = place_at(*a, end, n);
     memcpy(lent, bytes, n);
     memset(end == AT_WALL ? lent - BESIDE : lent + n, filling, BESIDE);
     return lent;
@@ -254,7 +275,24 @@ static inline int is_outside_of(struct area a) {
     return touched >= a.first - THICK && touched < a.wall + THICK;
 }
 
-/* Runs, and says whether it came to its end without touching a wall. */
+enum { CAN_SHUT = 1 };
+
+/* The area is filled, and from now on it can only be read: a byte of it that is written is touched as one of a wall is. */
+static inline void shut_area(struct area a) {
+    size_t inside = (size_t)(a.wall - a.first);
+    memset(a.first, filling, inside);
+    if (mprotect(a.first, inside, PROT_READ)) {
+        perror("a shut area");
+        exit(2);
+    }
+}
+
+/* Whether what was touched last is one of these bytes. */
+static inline int is_touched(const uint8_t *place, size_t n) {
+    return touched >= place && (size_t)(touched - place) < n;
+}
+
+/* Runs, and says whether it came to its end without touching a wall, or writing to what is shut. */
 static inline int stays_inside(void (*run)(const void *), const void *what) {
     awaited = 1;
     if (sigsetjmp(outside, 0) != 0) {

@@ -149,7 +149,8 @@ block-left = refl
 pub crossing : (words 0xC0DF 0x8123456789ABCDEF ≡ 0xC0DF8123456789ABCDEF)
     × (significandIn 0xC0DF8123456789ABCDEF ≡ 0x8123456789ABCDEF) × (wordIn 0xC0DF8123456789ABCDEF ≡ 0xC0DF)
     × (map saysNumber (Exact ∷ Up ∷ Down ∷ []) ≡ 0 ∷ 1 ∷ 2 ∷ [])
-    × (map {B = ℕ} (λ n. after n 1 0) (0 ∷ 1 ∷ 2 ∷ 3 ∷ 4 ∷ 5 ∷ 6 ∷ 7 ∷ 8 ∷ 9 ∷ []) ≡ 1 ∷ 1 ∷ 0 ∷ 0 ∷ 0 ∷ 0 ∷ 0 ∷ 1 ∷ 0 ∷ 0 ∷ [])
+    × (map {B = ℕ} (λ n. after n 1 0) (0 ∷ 1 ∷ 2 ∷ 3 ∷ 4 ∷ 5 ∷ 6 ∷ 7 ∷ 8 ∷ 9 ∷ 10 ∷ 11 ∷ 12 ∷ 13 ∷ 14 ∷ 15 ∷ 16 ∷ 255 ∷ [])
+    ≡ 1 ∷ 1 ∷ 0 ∷ 0 ∷ 0 ∷ 0 ∷ 0 ∷ 1 ∷ 0 ∷ 0 ∷ 0 ∷ 0 ∷ 0 ∷ 0 ∷ 0 ∷ 0 ∷ 0 ∷ 0 ∷ [])
 crossing = (refl, refl, refl, refl, refl)
 
 -- [9.5] kinds

@@ -1,4 +1,4 @@
--- Differences, files and folded points, computed from the definitions. Assumes nothing.
+-- Differences, files as they are read and written, and folded points, computed from the definitions. Assumes nothing.
 use mathlib.Core.Path.{_≡_, refl}
 use mathlib.Core.Bool.{Bool, true, false}
 use mathlib.Core.List.{List, [], _∷_, _++_, map}
@@ -250,7 +250,8 @@ pub call-staircase : map first
 unfolding first goodFields classOf
 call-staircase = refl
 
--- one fault: a list longer, either; every kind above 1; an origin of a turn; a byte less for no point, and enough
+-- one fault: a list longer, either; kinds above 1, whose lower bits are a turn and a roller; an origin of a turn; a byte less for no point,
+-- and enough
 pub call-faults : map first
     (writing 0 0x3FF0000000000000 0 1 0 100 ∷ writing 0 0x3FF0000000000000 0 0 1 100
     ∷ writing 0x100 0x3FF0000000000000 0 0 0 26 ∷ writing 0x80000001 0x3FF0000000000000 0 0 0 26
@@ -260,7 +261,7 @@ pub call-faults : map first
 unfolding first goodFields classOf
 call-faults = refl
 
--- ---- [12.4, 12.5] what the room holds later: three bytes past the file, none, and one too few
+-- ---- [12.4, 12.5] what the room holds later: three bytes past the file, none, one too few; and where gauges are refused
 abbrev roomOf : ℕ → List ℕ
 roomOf n = replicate n 0xAA
 
@@ -268,5 +269,6 @@ pub rooms-written : (writeFields 0 0x4076800000000000 0 readings radii (roomOf 7
     × (writeStem (roller 0x3ECDAB8967452301 0xCEDCBA9876543210) [] [] (roomOf 26) ≡ record { number = 0; written = 26; room = rollerFile })
     × (writeFields 0 0x4076800000000000 0 readings radii (roomOf 73) ≡ record { number = 16; written = 0; room = roomOf 73 })
     × (writeStem (turn 0) readings radii (roomOf 80) ≡ record { number = 15; written = 0; room = roomOf 80 })
+    × (writeStem (roller 0x4076800000000000 0x7FF0000000000000) readings radii (roomOf 80) ≡ record { number = 15; written = 0; room = roomOf 80 })
 unfolding writeFields writeStem first goodFields classOf
-rooms-written = (refl, refl, refl, refl)
+rooms-written = (refl, refl, refl, refl, refl)

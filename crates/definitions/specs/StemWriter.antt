@@ -54,7 +54,7 @@ writing kind period origin readings radii room =
     ∷ check 16 (ltb room (headerLength + pointLength * readings))
     ∷ []
 
--- its number, the length of the file, and what the room holds later
+-- its number, the length of the file, 0 on a refusal, and what the room holds later
 pub record Written : Type 0 where
   pub number : ℕ
   pub written : ℕ

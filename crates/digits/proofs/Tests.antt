@@ -18,3 +18,7 @@ and-both true true e = (refl, refl)
 and-both true false e = clash (cc)
 and-both false true e = clash (cc)
 and-both false false e = clash (cc)
+
+pub and-true : (b : Bool) → b && true ≡ b
+and-true true = refl
+and-true false = refl

@@ -14,8 +14,8 @@ use Rattle.definitions.specs.Difference.{differenceClass, difference}
 use Rattle.definitions.specs.Stem.{Gauge, turn, roller, Point, FoldedPoint, gaugeOf, periodOf, isPositive, good, goodFields, shifted, foldReading, foldPoint, handing}
 use Rattle.laws.proofs.Folded.{point-folded, point-left}
 use Rattle.floats.proofs.Passed.{passed, class-passed}
-use Rattle.digits.proofs.Tests.{clash}
-use Rattle.gauges.proofs.Judged.{and-false, and-true, good-held}
+use Rattle.digits.proofs.Tests.{clash, and-true}
+use Rattle.gauges.proofs.Judged.{and-false, good-held}
 use Rattle.gauges.specs.Held.{gaugeHeld, gaugeBits}
 
 -- a difference depends on the classes of its operands alone

@@ -10,7 +10,7 @@ use Rattle.definitions.specs.Format.{binary64, classOf}
 use Rattle.definitions.specs.Fold.{bad}
 use Rattle.definitions.specs.Stem as definition
 use Rattle.definitions.specs.Stem.{turn, roller, gaugeOf, isPositive, good, goodFields}
-use Rattle.digits.proofs.Tests.{not-zero}
+use Rattle.digits.proofs.Tests.{not-zero, and-true}
 use Rattle.operands.specs.Operand.{operandOf}
 use Rattle.operands.specs.declared.Operand.{Operand}
 use Rattle.operands.specs.declared.Operand.the-variants.{Unsupported, Nan, Infinite, Zero, Finite}
@@ -32,10 +32,6 @@ positiveOperand (Finite u) = not (u .negative)
 pub and-false : (b : Bool) → b && false ≡ false
 and-false true = refl
 and-false false = refl
-
-pub and-true : (b : Bool) → b && true ≡ b
-and-true true = refl
-and-true false = refl
 
 -- neither of two, as the code asks one after the other
 pub neither-second : (a b : Bool) → not a ≡ true → not b ≡ not (a || b)

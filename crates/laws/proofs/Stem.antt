@@ -11,11 +11,11 @@ use borrow.Author.Tests.{ltb-false, leb-true, le-ltb, eqb-true, eq-eqb, not-fals
 use lib.Dec.{leb, ltb, eqb, lit<, lit≤}
 use lib.ListN.{length, take, drop, length-drop, take-append-drop}
 use lib.Seq.{drop-drop, take-add, length-take-le}
-use Rattle.digits.proofs.Tests.{clash, and-both}
+use Rattle.digits.proofs.Tests.{clash, and-both, and-true}
 use Rattle.definitions.specs.Numbers.{Check, first}
 use Rattle.definitions.specs.Bytes.{bytesOf, ofBytes, loaded}
 use Rattle.definitions.specs.Stem.{Gauge, turn, roller, gaugeOf, kindOf, periodOf, originOf, good, goodFields, headerLength, pointLength, mark, version, pointLimit, fileMark, fileVersion, fileKind, fileCount, filePeriod, fileOrigin, judging, opened, refused, stem, stemNumber, stemPoints, pointAt, handing}
-use Rattle.definitions.specs.StemWriter.{headerOf}
+use Rattle.definitions.specs.StemWriter.{header, headerOf}
 use Rattle.laws.proofs.Bytes.{AreBytes, of-bytes, bytes-of, take-bytes, drop-bytes}
 
 -- ---- the claim
@@ -220,31 +220,52 @@ module _ (file : List ℕ) (are : AreBytes file) where
 
 -- ---- and such a row is accepted
 
--- a gauge is that of its fields, and they are as they have to be
-pub gauge-back : (g : Gauge) → good g ≡ true
-    → (gaugeOf (kindOf g) (periodOf g) (originOf g) ≡ g) × (goodFields (kindOf g) (periodOf g) (originOf g) ≡ true)
+-- a gauge is that of its fields
+pub gauge-same : (g : Gauge) → gaugeOf (kindOf g) (periodOf g) (originOf g) ≡ g
+gauge-same (turn p) = refl
+gauge-same (roller p o) = refl
+
+-- which are judged as it is
+pub gauge-fields : (g : Gauge) → goodFields (kindOf g) (periodOf g) (originOf g) ≡ good g
 unfolding goodFields
-gauge-back (turn p) e = (refl, rw e)
-gauge-back (roller p o) e = (refl, rw e)
+gauge-fields (turn p) = and-true (good (turn p))
+gauge-fields (roller p o) = and-true (good (roller p o))
 
 pub kind-small : (g : Gauge) → kindOf g ≤ 1
 kind-small (turn p) = lit≤ tt
 kind-small (roller p o) = lit≤ tt
 
+-- the fields of a header are read as they stand there, whatever they are
+module _ (kind n period origin : ℕ) (points : List ℕ) where
+  abbrev pub row : List ℕ
+  row = header kind n period origin ++ points
+
+  pub kind-back : kind < 256 → fileKind row ≡ kind
+  kind-back h = of-bytes 1 kind ∙ mod-eq-of-lt h
+
+  pub count-back : n ≤ pointLimit → fileCount row ≡ n
+  count-back h = of-bytes 4 n ∙ mod-eq-of-lt (lt-of-le-of-lt h (lit< tt))
+
+  pub period-back : period < 2 ^ 64 → filePeriod row ≡ period
+  period-back h = of-bytes 8 period ∙ mod-eq-of-lt h
+
+  pub origin-back : origin < 2 ^ 64 → fileOrigin row ≡ origin
+  origin-back h = of-bytes 8 origin ∙ mod-eq-of-lt h
+
 module _ (file : List ℕ) (g : Gauge) (points : List ℕ) (n : ℕ) (r : Row file g points n) where
   -- its fields, read
-  kind-read : fileKind file ≡ kindOf g
-  kind-read = rw (r .bytes) (of-bytes 1 (kindOf g) ∙ mod-eq-of-lt (lt-of-le-of-lt (kind-small g) (lit< tt)))
+  pub kind-read : fileKind file ≡ kindOf g
+  kind-read = ap fileKind (r .bytes) ∙ kind-back (kindOf g) n (periodOf g) (originOf g) points (lt-of-le-of-lt (kind-small g) (lit< tt))
 
-  period-read : filePeriod file ≡ periodOf g
-  period-read = rw (r .bytes) (of-bytes 8 (periodOf g) ∙ mod-eq-of-lt (r .period))
+  pub period-read : filePeriod file ≡ periodOf g
+  period-read = ap filePeriod (r .bytes) ∙ period-back (kindOf g) n (periodOf g) (originOf g) points (r .period)
 
-  origin-read : fileOrigin file ≡ originOf g
-  origin-read = rw (r .bytes) (of-bytes 8 (originOf g) ∙ mod-eq-of-lt (r .origin))
+  pub origin-read : fileOrigin file ≡ originOf g
+  origin-read = ap fileOrigin (r .bytes) ∙ origin-back (kindOf g) n (periodOf g) (originOf g) points (r .origin)
 
   -- [11.1] n is the count that the file declares
   pub row-count : fileCount file ≡ n
-  row-count = rw (r .bytes) (of-bytes 4 n ∙ mod-eq-of-lt (lt-of-le-of-lt (r .most) (lit< tt)))
+  row-count = ap fileCount (r .bytes) ∙ count-back (kindOf g) n (periodOf g) (originOf g) points (r .most)
 
   pub row-long : length file ≡ headerLength + pointLength * n
   row-long = rw (r .bytes) (omega (arith, r .long))
@@ -258,7 +279,7 @@ module _ (file : List ℕ) (g : Gauge) (points : List ℕ) (n : ℕ) (r : Row fi
         kind = rw kind-read (kind-small g);
         most = rw row-count (r .most);
         long = rw (row-long, row-count) refl;
-        gauge = rw (kind-read, period-read, origin-read) (gauge-back g (r .taken) .1);
+        gauge = rw (kind-read, period-read, origin-read) (gauge-fields g ∙ r .taken);
       }
 
   -- [11.1 to 11.8] whatever is such a row is accepted, with that gauge and those points
@@ -266,7 +287,7 @@ module _ (file : List ℕ) (g : Gauge) (points : List ℕ) (n : ℕ) (r : Row fi
   unfolding stem
   file-opened =
       let rest : drop headerLength file ≡ points = rw (r .bytes) refl in
-      rw (judged file row-passed, kind-read, period-read, origin-read, gauge-back g (r .taken) .0, rest)
+      rw (judged file row-passed, kind-read, period-read, origin-read, gauge-same g, rest)
 
 -- [11.5] the number of a file, by its bytes alone
 pub file-number : (file : List ℕ) → stemNumber (stem file)

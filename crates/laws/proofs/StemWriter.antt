@@ -2,21 +2,21 @@
 -- the room. Assumes nothing.
 use mathlib.Core.Path.{_≡_, refl, sym, ap, _∙_}
 use mathlib.Core.Bool.{Bool, true, false, not, cond}
-use mathlib.Core.List.{List, [], _∷_, _++_}
+use mathlib.Core.List.{List, [], _∷_, _++_, map}
 use Prim.Native.Nat.{ℕ, zero, suc, _+_, _*_, _/_, _^_, _≤_, _<_}
 use native.Mathlib.Nat.{add-zero, add-suc, suc-add, mod-eq-of-lt, lt-of-le-of-lt}
 use native.Mathlib.Omega.{arith}
-use borrow.Author.Tests.{eqb-true, eqb-false, eq-eqb, ne-eqb, ltb-false, le-ltb, not-false}
+use borrow.Author.Tests.{eqb-true, eqb-false, eq-eqb, ne-eqb, ltb-false, lt-ltb, le-ltb, not-false}
 use lib.Dec.{ltb, eqb, lit<}
 use lib.ListN.{length, getD, take, drop, length-append, length-drop, take-append-drop}
 use lib.Seq.{take-at, drop-at, drop-drop}
 use Rattle.digits.proofs.Tests.{clash}
 use Rattle.definitions.specs.Numbers.{Check, first}
 use Rattle.definitions.specs.Bytes.{bytesOf, loaded}
-use Rattle.definitions.specs.Stem.{Gauge, Point, gaugeOf, kindOf, periodOf, originOf, good, goodFields, headerLength, pointLength, pointLimit, fileKind, fileCount, filePeriod, fileOrigin, judging, opened, stem, stemNumber, pointAt, handing}
+use Rattle.definitions.specs.Stem.{Gauge, Point, gaugeOf, kindOf, periodOf, originOf, good, goodFields, headerLength, pointLength, pointLimit, fileKind, fileCount, filePeriod, fileOrigin, judging, opened, stem, stemNumber, pointAt}
 use Rattle.definitions.specs.StemWriter.{pointsOf, pointsFrom, pointsIn, header, headerOf, pointBytes, stemFile, writing, Written, writeFields, writeStem}
 use Rattle.laws.proofs.Bytes.{AreBytes, of-bytes, drop-bytes}
-use Rattle.laws.proofs.Stem.{Row, passed, stem-number, stem-opened, none-first, Held, held, gauge-back, kind-small, opened-file, file-opened, file-number, row-long, point-bytes, handing-number}
+use Rattle.laws.proofs.Stem.{Row, passed, stem-number, stem-opened, none-first, Held, held, gauge-same, gauge-fields, kind-small, row, kind-back, count-back, period-back, origin-back, opened-file, file-opened, file-number, row-long, point-bytes}
 
 -- ---- the claim
 
@@ -24,21 +24,22 @@ use Rattle.laws.proofs.Stem.{Row, passed, stem-number, stem-opened, non
 abbrev pub ArePatterns : List ℕ → Type 0
 ArePatterns l = (i : ℕ) → getD l i 0 < 2 ^ 64
 
-abbrev pub PointPatterns : List Point → Type 0
-PointPatterns [] = Unit {0}
-PointPatterns (p ∷ ps) = (p .reading < 2 ^ 64) × (p .radius < 2 ^ 64) × PointPatterns ps
+abbrev pub AllPatterns : List Point → Type 0
+AllPatterns [] = Unit {0}
+AllPatterns (p ∷ ps) = (p .reading < 2 ^ 64) × (p .radius < 2 ^ 64) × AllPatterns ps
 
 -- [12.6] a file is opened with this gauge and these points
 abbrev pub ReadsAs : List ℕ → Gauge → List Point → Type 0
 ReadsAs file g ps = (points : List ℕ) × (stem file ≡ opened g points) × (pointsIn points ≡ ps)
 
--- [12.8] what C is told of a file: it is accepted, with this kind, period, origin and count
-pub record OpensWith (file : List ℕ) (kind period origin count : ℕ) : Type 0 where
-  pub accepted : stemNumber (stem file) ≡ 0
+-- [12.8] what C is told of a file: it is taken, with this kind, period and origin and the count of these points, which are behind its header
+pub record OpensWith (file : List ℕ) (kind period origin : ℕ) (ps : List Point) : Type 0 where
+  pub taken : stemNumber (stem file) ≡ 0
   pub kindIs : fileKind file ≡ kind
   pub periodIs : filePeriod file ≡ period
   pub originIs : fileOrigin file ≡ origin
-  pub countIs : fileCount file ≡ count
+  pub countIs : fileCount file ≡ length ps
+  pub pointsAre : pointsIn (drop headerLength file) ≡ ps
 
 -- ---- points as bytes, and back
 
@@ -73,13 +74,16 @@ points-after i (suc n) points = rw (point-after points i, points-after (suc i) n
 pattern-read : (n : ℕ) (rest : List ℕ) → n < 2 ^ 64 → loaded 8 0 (bytesOf 8 n ++ rest) ≡ n
 pattern-read n rest h = of-bytes 8 n ∙ mod-eq-of-lt h
 
-points-read : (ps : List Point) → PointPatterns ps → pointsFrom 0 (length ps) (pointBytes ps) ≡ ps
+points-read : (ps : List Point) → AllPatterns ps → pointsFrom 0 (length ps) (pointBytes ps) ≡ ps
 points-read [] h = refl
 points-read (p ∷ ps) h =
     let rest = pointBytes ps in
     let x : loaded 8 0 (pointBytes (p ∷ ps)) ≡ p .reading = pattern-read (p .reading) (bytesOf 8 (p .radius) ++ rest) (h .0) in
     let r : loaded 8 8 (pointBytes (p ∷ ps)) ≡ p .radius = pattern-read (p .radius) rest (h .1) in
     rw (points-after 0 (length ps) (pointBytes (p ∷ ps)), x, r, points-read ps (h .2))
+
+points-all : (ps : List Point) → AllPatterns ps → pointsIn (pointBytes ps) ≡ ps
+points-all ps h = rw (points-count (pointBytes ps) (length ps) (length-points ps)) (points-read ps h)
 
 -- and bytes are written as they were read
 points-written : (n : ℕ) (points : List ℕ) → AreBytes points → length points ≡ pointLength * n → pointBytes (pointsFrom 0 n points) ≡ points
@@ -117,16 +121,14 @@ places-list i points (x ∷ readings) (r ∷ radii) same h =
 
 -- ---- the two round trips, of files
 
-module _ (g : Gauge) (ps : List Point) (taken : good g ≡ true) (period : periodOf g < 2 ^ 64) (origin : originOf g < 2 ^ 64) (patterns : PointPatterns ps) (most : length ps ≤ pointLimit) where
+module _ (g : Gauge) (ps : List Point) (taken : good g ≡ true) (period : periodOf g < 2 ^ 64) (origin : originOf g < 2 ^ 64) (patterns : AllPatterns ps) (most : length ps ≤ pointLimit) where
   written-row : Row (stemFile g ps) g (pointBytes ps) (length ps)
   written-row =
       record { bytes = refl; period = period; origin = origin; taken = taken; most = most; long = length-points ps }
 
   -- [12.6] what is written is accepted, and reads back as the same gauge and the same points, bit for bit
   pub file-reads-back : ReadsAs (stemFile g ps) g ps
-  file-reads-back =
-      let e = points-count (pointBytes ps) (length ps) (length-points ps) in
-      (pointBytes ps, file-opened (stemFile g ps) g (pointBytes ps) (length ps) written-row, rw e (points-read ps patterns))
+  file-reads-back = (pointBytes ps, file-opened (stemFile g ps) g (pointBytes ps) (length ps) written-row, points-all ps patterns)
 
 -- [12.7] a file that is accepted is the one that its gauge and its points are written as
 pub file-written-again : (file : List ℕ) → AreBytes file → (g : Gauge) (ps : List Point) → ReadsAs file g ps → stemFile g ps ≡ file
@@ -209,36 +211,19 @@ length-pairs [] radii e = refl
 length-pairs (x ∷ readings) [] e = absurd (omega (arith, e))
 length-pairs (x ∷ readings) (r ∷ radii) e = ap suc (length-pairs readings radii (omega (arith, e)))
 
-pair-patterns : (readings radii : List ℕ) → ArePatterns readings → ArePatterns radii → PointPatterns (pointsOf readings radii)
+pair-patterns : (readings radii : List ℕ) → ArePatterns readings → ArePatterns radii → AllPatterns (pointsOf readings radii)
 pair-patterns [] radii h k = tt
 pair-patterns (x ∷ readings) [] h k = tt
 pair-patterns (x ∷ readings) (r ∷ radii) h k = (h 0, k 0, pair-patterns readings radii (λ i. h (suc i)) (λ i. k (suc i)))
 
--- the fields of a header are read as they stand there
-module _ (kind period origin : ℕ) (ps : List Point) where
-  abbrev row : List ℕ
-  row = header kind (length ps) period origin ++ pointBytes ps
-
-  pub kind-back : kind < 256 → fileKind row ≡ kind
-  kind-back h = of-bytes 1 kind ∙ mod-eq-of-lt h
-
-  pub count-back : length ps ≤ pointLimit → fileCount row ≡ length ps
-  count-back h = of-bytes 4 (length ps) ∙ mod-eq-of-lt (lt-of-le-of-lt h (lit< tt))
-
-  pub period-back : period < 2 ^ 64 → filePeriod row ≡ period
-  period-back h = of-bytes 8 period ∙ mod-eq-of-lt h
-
-  pub origin-back : origin < 2 ^ 64 → fileOrigin row ≡ origin
-  origin-back h = of-bytes 8 origin ∙ mod-eq-of-lt h
-
 module _ (kind period origin : ℕ) (readings radii room : List ℕ) where
-  abbrev call : Written
+  abbrev pub call : Written
   call = writeFields kind period origin readings radii room
 
-  abbrev number : ℕ
+  abbrev pub number : ℕ
   number = first (writing kind period origin (length readings) (length radii) (length room))
 
-  abbrev file : List ℕ
+  abbrev pub file : List ℕ
   file = stemFile (gaugeOf kind period origin) (pointsOf readings radii)
 
   pub write-number : call .number ≡ number
@@ -291,45 +276,88 @@ module _ (kind period origin : ℕ) (readings radii room : List ℕ) where
       rw (write-front e)
       (file-reads-back (gaugeOf kind period origin) (pointsOf readings radii) (g .taken) (rw (← g .periodIs) p) (rw (← g .originIs) o) (pair-patterns readings radii h k) (rw n (a .most)))
 
-  -- [12.6, 12.8] and that is opened with the same kind, period and origin, and the count of the points
+  -- [12.6, 12.8] and that is opened with the same kind, period and origin, and has the same points
   pub call-opens-with : period < 2 ^ 64 → origin < 2 ^ 64 → ArePatterns readings → ArePatterns radii → number ≡ 0
-      → OpensWith (take (call .written) (call .room)) kind period origin (length readings)
+      → OpensWith (take (call .written) (call .room)) kind period origin (pointsOf readings radii)
   call-opens-with p o h k e =
       let a = accepted kind period origin (length readings) (length radii) (length room) e in
       let ps = pointsOf readings radii in
-      let n : length ps ≡ length readings = length-pairs readings radii (a .equal) in
-      let held = held kind period origin (a .known) (a .gauge) in
-      let f : file ≡ row kind period origin ps = ap (λ (l : List ℕ). l ++ pointBytes ps) (header-held kind period origin (gaugeOf kind period origin) (length ps) (length ps) held refl) in
-      let front : take (call .written) (call .room) ≡ row kind period origin ps = write-front e ∙ f in
+      let g = gaugeOf kind period origin in
+      let is = held kind period origin (a .known) (a .gauge) in
       let small : kind < 256 = omega (arith, a .known) in
-      let most : length ps ≤ pointLimit = rw n (a .most) in
+      let most : length ps ≤ pointLimit = rw (length-pairs readings radii (a .equal)) (a .most) in
+      let points = pointBytes ps in
+      let front : take (call .written) (call .room) ≡ row kind (length ps) period origin points =
+      write-front e ∙ ap (λ (l : List ℕ). l ++ points) (header-held kind period origin g (length ps) (length ps) is refl) in
       record {
-        accepted = ap stemNumber (call-reads-back p o h k e .1);
-        kindIs = ap fileKind front ∙ kind-back kind period origin ps small;
-        periodIs = ap filePeriod front ∙ period-back kind period origin ps p;
-        originIs = ap fileOrigin front ∙ origin-back kind period origin ps o;
-        countIs = ap fileCount front ∙ count-back kind period origin ps most ∙ n;
+        taken = ap stemNumber (call-reads-back p o h k e .1);
+        kindIs = ap fileKind front ∙ kind-back kind (length ps) period origin points small;
+        periodIs = ap filePeriod front ∙ period-back kind (length ps) period origin points p;
+        originIs = ap fileOrigin front ∙ origin-back kind (length ps) period origin points o;
+        countIs = ap fileCount front ∙ count-back kind (length ps) period origin points most;
+        pointsAre = rw front (points-all ps (pair-patterns readings radii h k));
       }
 
+-- ---- the call of a gauge
+
+module _ (g : Gauge) (readings radii room : List ℕ) where
+  -- [12.3] is that of its fields, and so all the above is said of it; it has no kind to refuse
+  pub gauge-call : writeStem g readings radii room ≡ writeFields (kindOf g) (periodOf g) (originOf g) readings radii room
+  unfolding writeStem
+  gauge-call = refl
+
+  pub gauge-number : writeStem g readings radii room .number
+      ≡ cond (eqb (length readings) (length radii))
+      (cond (ltb 4000 (length readings)) 13
+      (cond (good g)
+      (cond (ltb (length room) (26 + 16 * length readings)) 16 0)
+      15))
+      9
+  gauge-number =
+      ap (λ (w : Written). w .number) gauge-call
+      ∙ write-number (kindOf g) (periodOf g) (originOf g) readings radii room
+      ∙ writing-number (kindOf g) (periodOf g) (originOf g) (length readings) (length radii) (length room)
+      ∙ rw (le-ltb 1 (kindOf g) (kind-small g), gauge-fields g)
+
+  -- and a refusal leaves its room too
+  pub gauge-left : (writeStem g readings radii room .number ≡ 0 → ⊥) → writeStem g readings radii room .room ≡ room
+  gauge-left some =
+      ap (λ (w : Written). w .room) gauge-call
+      ∙ write-refused (kindOf g) (periodOf g) (originOf g) readings radii room (λ z. some (ap (λ (w : Written). w .number) gauge-call ∙ write-number (kindOf g) (periodOf g) (originOf g) readings radii room ∙ z)) .1
+
 -- [12.7] what a file that is accepted reads as, written again, is that file
-pub call-written-again : (file : List ℕ) → AreBytes file → (g : Gauge) (readings radii room : List ℕ) → length readings ≡ length radii → length file ≤ length room
-    → ReadsAs file g (pointsOf readings radii)
-    → writeStem g readings radii room ≡ record { number = 0; written = length file; room = file ++ drop (length file) room }
-unfolding writeStem writeFields
-call-written-again file are g readings radii room same fits r =
-    let ps = pointsOf readings radii in
-    let row = opened-file file are g (r .0) (r .1) in
-    let is : stemFile g ps ≡ file = file-written-again file are g ps r in
-    let n : length file ≡ headerLength + pointLength * length readings = rw (← is, ← length-pairs readings radii same) (length-file g ps) in
-    let back = gauge-back g (row .taken) in
-    let a : Accepted (kindOf g) (periodOf g) (originOf g) (length readings) (length radii) (length room) =
-    record { equal = same; known = kind-small g; most = omega (arith, n, row .most, row-long file g (r .0) (fileCount file) row); gauge = back .1; fits = omega (arith, n) } in
-    go _ _ (judged _ _ _ _ _ _ a) (ap (λ (h : Gauge). stemFile h ps) (back .0) ∙ is)
-  where
-    go : (n : ℕ) (f : List ℕ) → n ≡ 0 → f ≡ file
-        → _≡_ {A = Written} (record { number = n; written = cond (eqb n 0) (length f) 0; room = cond (eqb n 0) (f ++ drop (length f) room) room })
-        (record { number = 0; written = length file; room = file ++ drop (length file) room })
-    go n f e s = rw (e, s)
+module _ (file : List ℕ) (are : AreBytes file) (g : Gauge) (readings radii room : List ℕ) (same : length readings ≡ length radii) (reads : ReadsAs file g (pointsOf readings radii)) where
+  file-same : stemFile g (pointsOf readings radii) ≡ file
+  file-same = file-written-again file are g (pointsOf readings radii) reads
+
+  same-long : length file ≡ headerLength + pointLength * length readings
+  same-long = rw (← file-same, ← length-pairs readings radii same) (length-file g (pointsOf readings radii))
+
+  is-row : Row file g (reads .0) (fileCount file)
+  is-row = opened-file file are g (reads .0) (reads .1)
+
+  few : length readings ≤ pointLimit
+  few = omega (arith, same-long, is-row .most, row-long file g (reads .0) (fileCount file) is-row)
+
+  pub call-written-again : length file ≤ length room → writeStem g readings radii room ≡ record { number = 0; written = length file; room = file ++ drop (length file) room }
+  unfolding writeStem writeFields
+  call-written-again fits =
+      let a : Accepted (kindOf g) (periodOf g) (originOf g) (length readings) (length radii) (length room) =
+      record { equal = same; known = kind-small g; most = few; gauge = gauge-fields g ∙ is-row .taken; fits = omega (arith, same-long, fits) } in
+      go _ _ (judged _ _ _ _ _ _ a) (ap (λ (h : Gauge). stemFile h (pointsOf readings radii)) (gauge-same g) ∙ file-same)
+    where
+      go : (n : ℕ) (f : List ℕ) → n ≡ 0 → f ≡ file
+          → _≡_ {A = Written} (record { number = n; written = cond (eqb n 0) (length f) 0; room = cond (eqb n 0) (f ++ drop (length f) room) room })
+          (record { number = 0; written = length file; room = file ++ drop (length file) room })
+      go n f e s = rw (e, s)
+
+  -- or 16, where the room is too short for it
+  pub call-short : length room < length file → (writeStem g readings radii room .number ≡ 16) × (writeStem g readings radii room .room ≡ room)
+  call-short short =
+      let e : writeStem g readings radii room .number ≡ 16 =
+      gauge-number g readings radii room
+      ∙ rw (eq-eqb (length readings) (length radii) same, le-ltb 4000 (length readings) few, is-row .taken, lt-ltb (length room) (26 + 16 * length readings) (omega (arith, same-long, short))) in
+      (e, gauge-left g readings radii room (λ z. omega (arith, e, z)))
 
 -- the same of what C is told of it
 fields-gauge : (kind period origin : ℕ) (g : Gauge) → Held kind period origin g → (readings radii room : List ℕ)
@@ -346,19 +374,39 @@ fields-written-again file are readings radii room same fits e ps =
     let g = gaugeOf (fileKind file) (filePeriod file) (fileOrigin file) in
     let h = held (fileKind file) (filePeriod file) (fileOrigin file) (p .kind) (p .gauge) in
     fields-gauge (fileKind file) (filePeriod file) (fileOrigin file) g h readings radii room
-    ∙ call-written-again file are g readings radii room same fits (drop headerLength file, stem-opened file judged, ps)
+    ∙ call-written-again file are g readings radii room same (drop headerLength file, stem-opened file judged, ps) fits
 
--- [12.3] 12 and 15 are for just those gauges that the reader refuses in a file that is right but for them
-pub gauge-refused : (kind period origin : ℕ) (ps : List Point) → kind < 256 → period < 2 ^ 64 → origin < 2 ^ 64 → length ps ≤ pointLimit
-    → stemNumber (stem (header kind (length ps) period origin ++ pointBytes ps)) ≡ first (handing kind period origin)
-gauge-refused kind period origin ps k p o most =
-    let file = row kind period origin ps in
-    let long : length file ≡ 26 + 16 * length ps = omega (arith, length-points ps) in
-    file-number file
-    ∙ go (length file) (fileKind file) (fileCount file) (filePeriod file) (fileOrigin file) long (kind-back kind period origin ps k) (count-back kind period origin ps most) (period-back kind period origin ps p) (origin-back kind period origin ps o)
+-- [12.3] where the lists, the count and the room are right, the number is the reader's for the file that these fields make: 12 and 15 are for
+-- just those gauges that it refuses
+pub writer-and-reader : (kind period origin room : ℕ) (ps : List Point) → kind < 256 → period < 2 ^ 64 → origin < 2 ^ 64 → length ps ≤ pointLimit
+    → headerLength + pointLength * length ps ≤ room
+    → first (writing kind period origin (length ps) (length ps) room) ≡ stemNumber (stem (header kind (length ps) period origin ++ pointBytes ps))
+writer-and-reader kind period origin room ps k p o most fits =
+    let n = length ps in
+    let points = pointBytes ps in
+    let file = row kind n period origin points in
+    let long : length file ≡ 26 + 16 * n = omega (arith, length-points ps) in
+    writing-number kind period origin n n room
+    ∙ sym (file-number file ∙ go (length file) (fileKind file) (fileCount file) (filePeriod file) (fileOrigin file) long (kind-back kind n period origin points k) (count-back kind n period origin points most) (period-back kind n period origin points p) (origin-back kind n period origin points o))
   where
     go : (l a n b c : ℕ) → l ≡ 26 + 16 * length ps → a ≡ kind → n ≡ length ps → b ≡ period → c ≡ origin
-        → _≡_ {A = ℕ} (cond (ltb l 26) 14 (cond (ltb 1 a) 12 (cond (ltb 4000 n) 13 (cond (eqb l (26 + 16 * n)) (cond (goodFields a b c) 0 15) 14)))) (first (handing kind period origin))
+        → _≡_ {A = ℕ} (cond (ltb l 26) 14 (cond (ltb 1 a) 12 (cond (ltb 4000 n) 13 (cond (eqb l (26 + 16 * n)) (cond (goodFields a b c) 0 15) 14))))
+        (cond (eqb (length ps) (length ps)) (cond (ltb 1 kind) 12 (cond (ltb 4000 (length ps)) 13 (cond (goodFields kind period origin) (cond (ltb room (26 + 16 * length ps)) 16 0) 15))) 9)
     go l a n b c long kinds counts periods origins =
-        rw (long, kinds, counts, periods, origins, le-ltb (26 + 16 * length ps) 26 (omega arith), le-ltb 4000 (length ps) most, eq-eqb (26 + 16 * length ps) (26 + 16 * length ps) refl)
-        (sym (handing-number kind period origin))
+        rw (
+          long,
+          kinds,
+          counts,
+          periods,
+          origins,
+          le-ltb (26 + 16 * length ps) 26 (omega arith),
+          le-ltb 4000 (length ps) most,
+          eq-eqb (26 + 16 * length ps) (26 + 16 * length ps) refl,
+          eq-eqb (length ps) (length ps) refl,
+          le-ltb room (26 + 16 * length ps) fits,
+        )
+
+-- [12.2] every list of points is two lists of patterns
+pub points-pairs : (ps : List Point) → pointsOf (map (λ (p : Point). p .reading) ps) (map (λ (p : Point). p .radius) ps) ≡ ps
+points-pairs [] = refl
+points-pairs (p ∷ ps) = ap (λ (l : List Point). p ∷ l) (points-pairs ps)

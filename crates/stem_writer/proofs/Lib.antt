@@ -1,4 +1,3 @@
 pub mod Stores
 pub mod Points
 pub mod Whole
-pub mod RoundTrip

@@ -43,24 +43,24 @@ module _ (kind period origin : ℕ) (readings radii room : List ℕ) where
       → _≡_ {A = Written} (record { number = n; written = end; room = room₂ }) (writeFields kind period origin readings radii room)
   unfolding writeFields
   written-call n room₁ room₂ is none e₁ e₂ =
-      let zero = sym is ∙ none in
-      let a = accepted kind period origin count (length radii) (length room) zero in
+      let numbered : number ≡ 0 = sym is ∙ none in
+      let a = accepted kind period origin count (length radii) (length room) numbered in
       let g = gaugeOf kind period origin in
       let ps = pointsOf readings radii in
-      let first = header kind count period origin in
+      let front = header kind count period origin in
       let pairs : length ps ≡ count = length-pairs readings radii (a .equal) in
-      let parts : stemFile g ps ≡ first ++ points =
+      let parts : stemFile g ps ≡ front ++ points =
       ap (λ (l : List ℕ). l ++ points) (header-held kind period origin g (length ps) count (held kind period origin (a .known) (a .gauge)) pairs) in
       let long : length (stemFile g ps) ≡ end = length-file g ps ∙ ap (λ (k : ℕ). headerLength + pointLength * k) pairs in
-      let joined : room₂ ≡ sets room 0 (first ++ points) = rw (e₂, e₁) (sets-more room first points 0 headerLength refl) in
+      let joined : room₂ ≡ sets room 0 (front ++ points) = rw (e₂, e₁) (sets-more room front points 0 headerLength refl) in
       let later : room₂ ≡ stemFile g ps ++ drop (length (stemFile g ps)) room =
       joined ∙ ap (sets room 0) (sym parts) ∙ rw (zero-add (length (stemFile g ps))) at (sets-eq (stemFile g ps) room 0 (omega (arith, a .fits, long))) in
-      go number (stemFile g ps) zero long later
+      go number (stemFile g ps) numbered long later
     where
       go : (m : ℕ) (file : List ℕ) → m ≡ 0 → length file ≡ end → room₂ ≡ file ++ drop (length file) room
           → _≡_ {A = Written} (record { number = n; written = end; room = room₂ })
           (record { number = m; written = cond (eqb m 0) (length file) 0; room = cond (eqb m 0) (file ++ drop (length file) room) room })
-      go m file zero long later = rw (zero, none, later, long)
+      go m file numbered long later = rw (numbered, none, later, long)
 
 -- a gauge's call is that of its fields
 pub turn-call : (gauge : Gauge) (p : Float) (readings radii room : List ℕ) → gauge ≡ Turn p

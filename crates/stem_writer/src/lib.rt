@@ -1,7 +1,5 @@
 // Stem files, written into lent room. Everything is judged before the first byte is written; points are patterns, so that every bit of
 // a NaN is kept.
-use checks::number_of;
-use definitions::Refusal;
 use floats::pattern_of;
 use gauges::BAD_GAUGE;
 use gauges::Gauge;
@@ -27,6 +25,8 @@ ghost use Rattle.definitions.specs.StemWriter.{pointsOf, header, pointBytes, wr
 ghost use Rattle.gauges.specs.Held.{gaugeBits};
 ghost use Rattle.stem_writer.specs.Written.{writeMeaning};
 
+const BAD_LENGTH: u8 = 9;
+
 const SHORT_ROOM: u8 = 16;
 
 // The number of a call, and how long the file is that it wrote.
@@ -47,7 +47,7 @@ fn judge_writing(
     ensures { λ r. ⌜ r ≡ first (writing kind period origin readings radii room) ⌝ }
 {
     if readings != radii {
-        return number_of(Refusal::BadLength);
+        return BAD_LENGTH;
     }
     if 1 < kind {
         return BAD_KIND;
@@ -64,6 +64,7 @@ fn judge_writing(
     0
 }
 
+// The fields in their row.
 fn write_header(room: &mut [u8], kind: u8, count: u32, period: u64, origin: u64)
     requires { ⌜ headerLength ≤ length (now room) ⌝ }
     ensures { λ _. ⌜ now (room .exit) ≡ sets (now (room .entry)) 0 (header kind count period origin) ⌝ }
@@ -78,6 +79,7 @@ fn write_header(room: &mut [u8], kind: u8, count: u32, period: u64, origin: u64)
     store8(room, 18, origin);
 }
 
+// A reading and then its radius.
 fn write_point(room: &mut [u8], at: usize, reading: u64, radius: u64)
     requires { ⌜ at + pointLength ≤ length (now room) ⌝ }
     ensures { λ _. ⌜ now (room .exit) ≡ sets (now (room .entry)) at (bytesOf 8 reading ++ bytesOf 8 radius) ⌝ }
@@ -125,6 +127,7 @@ pub fn write_fields(
     WriteAnswer { number, written }
 }
 
+// By a gauge: its fields.
 pub fn write_stem(gauge: Gauge, readings: &[u64], radii: &[u64], room: &mut [u8]) -> WriteAnswer
     ensures { λ r. ⌜ writeMeaning r (now (room .exit)) ≡ writeStem (gaugeBits gauge) (now (readings .entry)) (now (radii .entry)) (now (room .entry)) ⌝ }
 {

@@ -32,12 +32,9 @@ past4 c = past3 (c .before .before) ∙ rw (← c .before .good-fields .ensures,
 
 -- ---- the needs
 
-number-of-requires : tie.Need-number-of-requires
-number-of-requires c κs = search needs
-
 returns : tie.Need-returns
 unfolding first
-returns c = c .number-of .ensures ∙ sym (rw (ne-eqb _ _ (c .before .if1 .taken)))
+returns c = rw (ne-eqb _ _ (c .if1 .taken))
 
 returns-2 : tie.Need-returns-2
 unfolding first
@@ -75,7 +72,6 @@ pub judge-writing-spec : {M : Type 1} → statement M
 judge-writing-spec =
     tie.close
     (tie.spec
-    number-of-requires
     returns
     returns-2
     cast-if3
