@@ -206,7 +206,7 @@ uint8_t zk_stem_fold(uint32_t kind, uint64_t period, uint64_t origin, uint64_t *
  * zk_stem_open takes the file, with the same gauge and the same points. A file that zk_stem_open takes, written again with the gauge and
  * the points that it has, is the same file.
  * Refuses with the first that applies of 9 (nreadings is not nradii), 12 (a kind above 1), 13 (more than ZK_STEM_MOST points), 15 (a gauge
- * that zk_stem_open would refuse, a turn with an origin other than 0 among them) and 16 (length is less than the file has). It then
+ * that zk_stem_open would refuse, a turn with an origin other than 0 among them) and 16 (length is less than 26 + 16 * nreadings). It then
  * writes nothing, neither room nor *written, and reads nothing of the lists.
  */
 uint8_t zk_stem_write(uint32_t kind, uint64_t period, uint64_t origin, const uint64_t *readings, size_t nreadings, const uint64_t *radii,

@@ -99,6 +99,7 @@ page docs/EVIDENCE.md 's|`tests/faults.c`|`tests/errors.c`|' '^docs/EVIDENCE.md:
 page docs/PROOF.md 's/^- \[1[.]2\]/- [1.99]/' 'has no sentence 1.99$'
 page docs/SCOPE.md '0,/^2[.] /s/^2[.] /99. /' 'has no sentence 1.2$'
 page include/zukemoriha.h 's/ZK_VERSION "/&9/' 'different versions$'
+page crates/export_fold/src/lib.rt '/^    ensures number/i\    requires { }' '^crates/export_fold/src/lib.rt: a host would have to look first$'
 
 echo "$controls controls, $missed not noticed"
 [ $missed -eq 0 ]

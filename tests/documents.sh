@@ -1,7 +1,8 @@
 #!/bin/sh
 # What the documents name is there, and the crate's version is the header's: every edit in the list of its crate in docs/PROOF.md and no
 # other, every theorem that its sections 2 and 3 name, every crate in docs/ARCHITECTURE.md and, with its number of edits, in docs/GATE.md,
-# every file that a link or a path of a page speaks of, and every sentence of docs/SCOPE.md that a comment or a page points at.
+# every file that a link or a path of a page speaks of, and every sentence of docs/SCOPE.md that a comment or a page points at. And no
+# function of the files that docs/PROOF.md names for [1.2] asks anything of its caller, but for private helpers.
 # documents.sh [FOLDER]    the repository's, or a copy's
 set -eu
 unset CDPATH
@@ -49,6 +50,11 @@ numbered=$(awk '/^## [0-9]/ { section = $2 + 0 } /^[0-9]+[.] / { print section "
 for sentence in $(grep -rhoE '\[[0-9]+[.][0-9]+[^]]*\]' crates/*/specs crates/*/proofs crates/*/src docs/PROOF.md | grep -oE '[0-9]+[.][0-9]+' | sort -u |
     grep -vxF "$numbered"); do
     say "docs/SCOPE.md has no sentence $sentence"
+done
+called=$(awk '/^- \[1.2\]/ { within = 1; print; next } /^- / { within = 0 } within' docs/PROOF.md | grep -oE '`crates/[^`]*`' | tr -d '`')
+for file in $(find $called -name '*.rt'); do
+    awk '/^pub (extern "C" )?fn / { host = 1 } /^{/ { host = 0 } host && /^ *requires/ { print FILENAME ": a host would have to look first"; bad = 1 }
+        END { exit bad }' "$file" || wrong=1
 done
 [ "$(sed -n 's/^version = //p' rust/zukemoriha/Cargo.toml)" = "$(sed -n 's/^#define ZK_VERSION //p' include/zukemoriha.h)" ] ||
     say 'the Rust crate and the header are of different versions'

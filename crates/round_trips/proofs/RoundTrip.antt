@@ -5,16 +5,16 @@ use mathlib.Core.List.{List, _++_}
 use Prim.Native.Nat.{ℕ, _/_, _^_, _≤_, _<_}
 use native.Mathlib.Nat.{zero-add}
 use native.Mathlib.Omega.{arith}
-use borrow.Author.Tests.{leb-false, eq-eqb, ne-eqb}
-use lib.Dec.{leb}
-use lib.ListN.{length, getD, take, drop}
+use borrow.Author.Tests.{ltb-true, ltb-false, leb-false, eq-eqb, ne-eqb}
+use lib.Dec.{ltb, leb, eqb}
+use lib.ListN.{length, getD, take, drop, length-drop}
 use Rattle.digits.proofs.Tests.{clash}
 use Rattle.definitions.specs.Numbers.{first}
 use Rattle.definitions.specs.Stem as definition
-use Rattle.definitions.specs.Stem.{pointLength, gaugeOf, Stem, opened, refused, stem, stemPoints, pointAt}
+use Rattle.definitions.specs.Stem.{headerLength, pointLength, gaugeOf, fileCount, judging, Stem, opened, refused, stem, stemNumber, stemPoints, pointAt}
 use Rattle.definitions.specs.StemWriter.{pointsOf, pointsIn, writing, Written, writeFields, writeStem}
 use Rattle.laws.proofs.Bytes.{AreBytes}
-use Rattle.laws.proofs.Stem.{opened-file}
+use Rattle.laws.proofs.Stem.{passed, stem-number, stem-opened, opened-file}
 use Rattle.laws.proofs.StemWriter.{ArePatterns, ReadsAs, accepted, write-number, write-length, write-room, call-reads-back, call-written-again, call-short, length-from, length-pairs, place-back}
 use Rattle.gauges.specs.declared.Gauge.{Gauge}
 use Rattle.gauges.specs.Held.{gaugeHeld, gaugeBits}
@@ -23,9 +23,10 @@ use Rattle.stems.specs.declared.StemAnswer.the-variants.{Opened, Refused}
 use Rattle.stems.specs.declared.PointPatterns.{PointPatterns}
 use Rattle.stems.specs.declared.PlacedPatterns.the-variants.{At, Past}
 use Rattle.stems.specs.Opened.{answerOf, patternsPlaced}
+use Rattle.stems.proofs.Opened.{told-opened, told-refused}
 use Rattle.stem_writer.specs.declared.WriteAnswer.{WriteAnswer}
 use Rattle.stem_writer.specs.Written.{writeMeaning}
-use Rattle.round_trips.specs.Trips.{opensAs, listed, takenOut}
+use Rattle.round_trips.specs.Trips.{opensAs, listed, takenOut, again}
 
 -- of a part that has the points of two lists `patterns_at` gives what they hold
 module _ (part readings radii : List ℕ) (same : length readings ≡ length radii) (e : pointsIn part ≡ pointsOf readings radii) (i : ℕ) where
@@ -119,3 +120,52 @@ module _ (file readings radii room room₁ : List ℕ) (gauge : Gauge) (answer :
   opened-short short =
       let e = call-short file are (gaugeBits gauge) readings radii room same (reads-as (stem file) refl opens) short in
       (ap (λ (w : Written). w .number) wrote ∙ e .0, ap (λ (w : Written). w .room) wrote ∙ e .1)
+
+-- ---- the number of a file that is opened and written again
+
+module _ (file : List ℕ) (gauge : Gauge) (opens : answerOf (stem file) ≡ Opened gauge) where
+  abbrev part : List ℕ
+  part = stemPoints (stem file)
+
+  judged-well : first (judging file) ≡ 0
+  judged-well = told-opened file gauge opens
+
+  accepted-file : stemNumber (stem file) ≡ 0
+  accepted-file = stem-number file ∙ judged-well
+
+  part-count : length part / pointLength ≡ fileCount file
+  part-count =
+      rw (ap stemPoints (stem-opened file judged-well), length-drop headerLength file) (omega (arith, passed file judged-well .long))
+
+  pub again-readings : (x r room : ℕ) → (x ≡ length part / pointLength → ⊥) → 9 ≡ again file x r room
+  again-readings x r room h = rw (accepted-file, ne-eqb x (fileCount file) (λ e. h (e ∙ sym part-count)))
+
+  pub again-radii : (x r room : ℕ) → x ≡ length part / pointLength → (r ≡ length part / pointLength → ⊥) → 9 ≡ again file x r room
+  again-radii x r room e h = rw (accepted-file, eq-eqb x (fileCount file) (e ∙ part-count), ne-eqb r (fileCount file) (λ f. h (f ∙ sym part-count)))
+
+  again-whole : (x r room : ℕ) → x ≡ length part / pointLength → r ≡ length part / pointLength → again file x r room ≡ cond (ltb room (length file)) 16 0
+  again-whole x r room e f = rw (accepted-file, eq-eqb x (fileCount file) (e ∙ part-count), eq-eqb r (fileCount file) (f ∙ part-count))
+
+  -- the call that writes it again
+  pub written-back : (readings radii room room₁ : List ℕ) (answer : WriteAnswer) (x r : ℕ) → AreBytes file → length readings ≡ length radii
+      → x ≡ length part / pointLength → r ≡ length part / pointLength
+      → pointsIn part ≡ pointsOf readings radii → writeMeaning answer room₁ ≡ writeStem (gaugeBits gauge) readings radii room
+      → (answer .number ≡ again file x r (length room)) × (room₁ ≡ cond (eqb (answer .number) 0) (file ++ drop (length file) room) room)
+  written-back readings radii room room₁ answer x r are same e f taken wrote = go (ltb (length room) (length file)) refl
+    where
+      go : (t : Bool) → ltb (length room) (length file) ≡ t
+          → (answer .number ≡ again file x r (length room)) × (room₁ ≡ cond (eqb (answer .number) 0) (file ++ drop (length file) room) room)
+      go true l =
+          let w = opened-short file readings radii room room₁ gauge answer are same opens taken wrote (ltb-true (length room) (length file) l) in
+          (w .0 ∙ sym (again-whole x r (length room) e f ∙ rw l), rw (w .0) (w .1))
+      go false l =
+          let w = opened-written file readings radii room room₁ gauge answer are same opens taken wrote (ltb-false (length room) (length file) l) in
+          let n : answer .number ≡ 0 = ap (λ (t : Written). t .number) w in
+          (n ∙ sym (again-whole x r (length room) e f ∙ rw l), rw n (ap (λ (t : Written). t .room) w))
+
+-- and of one that is refused
+pub again-refused : (file : List ℕ) (n : ℕ) → answerOf (stem file) ≡ Refused n → (x r room : ℕ) → (n ≡ again file x r room) × (n ≡ 0 → ⊥)
+again-refused file n e x r room =
+    let t = told-refused file n e in
+    let is : stemNumber (stem file) ≡ n = stem-number file ∙ t .0 in
+    (rw (is, ne-eqb n 0 (t .1)), t .1)

@@ -86,7 +86,10 @@ pub fn open_and_write(file: &[u8], readings: &mut [u64], radii: &mut [u64], room
         StemAnswer::Opened(gauge) => {
             let part = points_of(file);
             let count = part.len() / POINT_LENGTH;
-            if readings.len() != count || radii.len() != count {
+            if readings.len() != count {
+                return BAD_LENGTH;
+            }
+            if radii.len() != count {
                 return BAD_LENGTH;
             }
             take_points(part, readings, radii);

@@ -1,11 +1,12 @@
 -- `take_points` meets its contract, by that of `patterns_at`. After i turns both lists hold the points before i. Assumes nothing.
-use mathlib.Core.Path.{_≡_, refl, sym, ap, _∙_}
+use mathlib.Core.Path.{_≡_, refl, sym, _∙_}
 use mathlib.Core.List.{List}
 use mathlib.Core.Logic.{⊎-elim}
-use Prim.Native.Nat.{ℕ, _-_, _≤_, zero-le}
+use Prim.Native.Nat.{ℕ, _-_, _≤_, _<_, zero-le}
 use native.Mathlib.Numerals.{add-one}
 use native.Mathlib.Omega.{arith}
 use lib.ListN.{length, length-set}
+use borrow.Author.Needs.{needs}
 use Rattle.round_trips.proofs.Taken.{Taken, place-held, taken-more, taken-all}
 use Rattle.round_trips.proofs.take_points.Statement.{statement}
 use Rattle.round_trips.proofs.take_points.Tie as tie
@@ -30,10 +31,10 @@ patterns-at-requires : tie.Need-patterns-at-requires Inv-loop μ-loop
 patterns-at-requires c κs = tt
 
 enum-told : tie.Need-enum-told Inv-loop μ-loop
-enum-told c = ?told
+enum-told c = search needs
 
 enum-known-point : tie.Need-enum-known-point Inv-loop μ-loop
-enum-known-point c = ?known
+enum-known-point c = search needs
 
 mul-readings : tie.Need-mul-readings Inv-loop μ-loop
 mul-readings c = omega arith
@@ -45,19 +46,37 @@ mul-radii : tie.Need-mul-radii Inv-loop μ-loop
 mul-radii c = omega arith
 
 slice-write-radii : tie.Need-slice-write-radii Inv-loop μ-loop
-slice-write-radii c = ?radii
+slice-write-radii c =
+    let l = c .before .before .before .before .before .loop in
+    let s = c .before .before .before .before .before .before .before .before .before in
+    omega (arith, l .inv .as-many, l .inv .as-many-radii, s .pre .0, s .pre .1)
 
 add-i : tie.Need-add-i Inv-loop μ-loop
 add-i c = omega arith
 
 loop-less : tie.Need-loop-less Inv-loop μ-loop
-loop-less c = ?less
+loop-less c = let l = c .before .before .before .loop in omega (arith, l .inv .as-many)
 
 loop-again : tie.Need-loop-again Inv-loop μ-loop
 loop-again c =
     let l = c .before .before .before .loop in
     let s = c .before .before .before .before .before .before .before in
-    ?again
+    let part = s .args .part .now in
+    let result = c .before .patterns-at .ensures in
+    ⊎-elim
+    (λ w. absurd (place-held part (l .i) (omega (arith, l .inv .as-many, s .pre .0)) (sym result ∙ w .1 .given .1)))
+    (λ w.
+    let point = w .1 .given .0 .0 in
+    let x = length-set (l .readings) (l .i) (point .reading) in
+    let r = length-set (l .radii) (l .i) (point .radius) in
+    let wide : l .i < length (l .radii) = omega (arith, l .inv .as-many, l .inv .as-many-radii, s .pre .0, s .pre .1) in
+    record {
+      within = rw (w .3, x) (omega arith);
+      as-many = rw (w .3, x) (l .inv .as-many);
+      as-many-radii = rw (w .4, r) (l .inv .as-many-radii);
+      taken = rw (add-one (l .i), w .3, w .4) (taken-more part (l .i) (l .readings) (l .radii) point (l .inv .taken) (omega arith) wide (sym result ∙ w .1 .given .1));
+    })
+    (c .match .came)
 
 same-length : tie.Need-same-length Inv-loop μ-loop
 same-length c = c .before .loop .inv .as-many
