@@ -1,6 +1,7 @@
 //! A call and its answer, in one form for the library, the second implementation and a file.
 
 use crate::formats::Layout;
+use crate::Library;
 use second::stem::{self, Gauge, Point, Stem};
 use second::{Answer, Folded, Format, Kind};
 
@@ -20,19 +21,27 @@ pub enum Call {
     Split(Format, u128),
 }
 
-/// Whoever can be asked.
+/// Whoever can be asked. What is not written otherwise is the library's.
 pub trait Implementation: Sync {
     fn name(&self) -> &'static str;
-    fn answer(&self, call: &Call) -> Answer;
+    fn answer(&self, call: &Call) -> Answer {
+        Library.answer(call)
+    }
     /// # Errors
     /// The number that refuses the list.
-    fn fold(&self, kind: Kind, dividends: &[u64], divisor: u64) -> Result<Folded, u8>;
+    fn fold(&self, kind: Kind, dividends: &[u64], divisor: u64) -> Result<Folded, u8> {
+        Library.fold(kind, dividends, divisor)
+    }
     /// # Errors
     /// The number that refuses the stem file.
-    fn open(&self, file: &[u8]) -> Result<Stem, u8>;
+    fn open(&self, file: &[u8]) -> Result<Stem, u8> {
+        Library.open(file)
+    }
     /// # Errors
     /// The number that refuses the gauge.
-    fn fold_point(&self, gauge: Gauge, point: Point) -> Result<Point, u8>;
+    fn fold_point(&self, gauge: Gauge, point: Point) -> Result<Point, u8> {
+        Library.fold_point(gauge, point)
+    }
     /// The stem file that is written to the front of a room of so many bytes.
     ///
     /// # Errors
@@ -43,7 +52,9 @@ pub trait Implementation: Sync {
         readings: &[u64],
         radii: &[u64],
         room: usize,
-    ) -> Result<Vec<u8>, u8>;
+    ) -> Result<Vec<u8>, u8> {
+        Library.write(gauge, readings, radii, room)
+    }
 }
 
 /// The two that are compared, the library first.

@@ -26,28 +26,6 @@ impl Implementation for Answering {
     fn answer(&self, call: &Call) -> Answer {
         (self.0)(call)
     }
-
-    fn fold(&self, kind: Kind, dividends: &[u64], divisor: u64) -> Result<Folded, u8> {
-        Library.fold(kind, dividends, divisor)
-    }
-
-    fn open(&self, file: &[u8]) -> Result<Stem, u8> {
-        Library.open(file)
-    }
-
-    fn fold_point(&self, gauge: Gauge, point: Point) -> Result<Point, u8> {
-        Library.fold_point(gauge, point)
-    }
-
-    fn write(
-        &self,
-        gauge: Gauge,
-        readings: &[u64],
-        radii: &[u64],
-        room: usize,
-    ) -> Result<Vec<u8>, u8> {
-        Library.write(gauge, readings, radii, room)
-    }
 }
 
 /// The library, with a stem file that is mended before it is judged, and a roller's readings from
@@ -62,14 +40,6 @@ type Subtraction = fn(f64, f64) -> f64;
 impl Implementation for Otherwise {
     fn name(&self) -> &'static str {
         "otherwise"
-    }
-
-    fn answer(&self, call: &Call) -> Answer {
-        Library.answer(call)
-    }
-
-    fn fold(&self, kind: Kind, dividends: &[u64], divisor: u64) -> Result<Folded, u8> {
-        Library.fold(kind, dividends, divisor)
     }
 
     fn open(&self, file: &[u8]) -> Result<Stem, u8> {
@@ -92,16 +62,6 @@ impl Implementation for Otherwise {
             };
         }
         Ok(folded)
-    }
-
-    fn write(
-        &self,
-        gauge: Gauge,
-        readings: &[u64],
-        radii: &[u64],
-        room: usize,
-    ) -> Result<Vec<u8>, u8> {
-        Library.write(gauge, readings, radii, room)
     }
 }
 
@@ -162,22 +122,6 @@ impl Handed {
 impl Implementation for Writing {
     fn name(&self) -> &'static str {
         "writing"
-    }
-
-    fn answer(&self, call: &Call) -> Answer {
-        Library.answer(call)
-    }
-
-    fn fold(&self, kind: Kind, dividends: &[u64], divisor: u64) -> Result<Folded, u8> {
-        Library.fold(kind, dividends, divisor)
-    }
-
-    fn open(&self, file: &[u8]) -> Result<Stem, u8> {
-        Library.open(file)
-    }
-
-    fn fold_point(&self, gauge: Gauge, point: Point) -> Result<Point, u8> {
-        Library.fold_point(gauge, point)
     }
 
     fn write(

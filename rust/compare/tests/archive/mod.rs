@@ -1,8 +1,7 @@
 //! The archive's own writer of stem files. It takes kinds and origins that the safe functions do not
 //! have, and is lent a place for the length, and lists that have to stay as they were.
 
-use compare::{lent_length, lent_room, Implementation, Library, MISWROTE};
-use compare::{Answer, Call, Folded, Gauge, Kind, Point, Stem};
+use compare::{lent_length, lent_room, Gauge, Implementation, MISWROTE};
 
 #[allow(dead_code)]
 #[path = "../../../zukemoriha/src/raw.rs"]
@@ -17,22 +16,6 @@ pub struct Archive;
 impl Implementation for Archive {
     fn name(&self) -> &'static str {
         "archive"
-    }
-
-    fn answer(&self, call: &Call) -> Answer {
-        Library.answer(call)
-    }
-
-    fn fold(&self, kind: Kind, dividends: &[u64], divisor: u64) -> Result<Folded, u8> {
-        Library.fold(kind, dividends, divisor)
-    }
-
-    fn open(&self, file: &[u8]) -> Result<Stem, u8> {
-        Library.open(file)
-    }
-
-    fn fold_point(&self, gauge: Gauge, point: Point) -> Result<Point, u8> {
-        Library.fold_point(gauge, point)
     }
 
     fn write(
