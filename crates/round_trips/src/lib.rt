@@ -1,4 +1,5 @@
 // The two round trips of stem files as programs. Nothing is known here of the reader and the writer but what they promise.
+use stem_writer::UNEQUAL_LISTS;
 use stem_writer::write_fields;
 use stem_writer::write_stem;
 use stems::POINT_LENGTH;
@@ -16,8 +17,6 @@ ghost use lib.ListN.{length, drop};
 ghost use Rattle.definitions.specs.Stem.{pointLength, gaugeOf};
 ghost use Rattle.definitions.specs.StemWriter.{pointsOf, pointsIn, writeFields};
 ghost use Rattle.round_trips.specs.Trips.{opensAs, takenOut, again};
-
-const BAD_LENGTH: u8 = 9;
 
 // Writes, and opens what was written.
 pub fn write_and_open(
@@ -87,10 +86,10 @@ pub fn open_and_write(file: &[u8], readings: &mut [u64], radii: &mut [u64], room
             let part = points_of(file);
             let count = part.len() / POINT_LENGTH;
             if readings.len() != count {
-                return BAD_LENGTH;
+                return UNEQUAL_LISTS;
             }
             if radii.len() != count {
-                return BAD_LENGTH;
+                return UNEQUAL_LISTS;
             }
             take_points(part, readings, radii);
             let answer = write_stem(gauge, readings, radii, room);

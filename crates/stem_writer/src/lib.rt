@@ -25,7 +25,7 @@ ghost use Rattle.definitions.specs.StemWriter.{pointsOf, header, pointBytes, wr
 ghost use Rattle.gauges.specs.Held.{gaugeBits};
 ghost use Rattle.stem_writer.specs.Written.{writeMeaning};
 
-const BAD_LENGTH: u8 = 9;
+pub const UNEQUAL_LISTS: u8 = 9;
 
 const SHORT_ROOM: u8 = 16;
 
@@ -47,7 +47,7 @@ fn judge_writing(
     ensures { λ r. ⌜ r ≡ first (writing kind period origin readings radii room) ⌝ }
 {
     if readings != radii {
-        return BAD_LENGTH;
+        return UNEQUAL_LISTS;
     }
     if 1 < kind {
         return BAD_KIND;
