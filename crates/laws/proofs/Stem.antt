@@ -295,7 +295,7 @@ pub file-number : (file : List ℕ) → stemNumber (stem file)
     (cond (eqb (loaded 3 0 file) 0x4D5453)
     (cond (eqb (loaded 2 3 file) 1)
     (cond (ltb 1 (loaded 1 5 file)) 12
-    (cond (ltb 4000 (loaded 4 6 file)) 13
+    (cond (ltb pointLimit (loaded 4 6 file)) 13
     (cond (eqb (length file) (26 + 16 * loaded 4 6 file))
     (cond (goodFields (loaded 1 5 file) (loaded 8 10 file) (loaded 8 18 file)) 0 15)
     14)))
@@ -304,7 +304,7 @@ pub file-number : (file : List ℕ) → stemNumber (stem file)
 unfolding first
 file-number file =
     stem-number file
-    ∙ go (ltb (length file) 26) (eqb (loaded 3 0 file) 0x4D5453) (eqb (loaded 2 3 file) 1) (ltb 1 (loaded 1 5 file)) (ltb 4000 (loaded 4 6 file)) (eqb (length file) (26 + 16 * loaded 4 6 file)) (goodFields (loaded 1 5 file) (loaded 8 10 file) (loaded 8 18 file))
+    ∙ go (ltb (length file) 26) (eqb (loaded 3 0 file) 0x4D5453) (eqb (loaded 2 3 file) 1) (ltb 1 (loaded 1 5 file)) (ltb pointLimit (loaded 4 6 file)) (eqb (length file) (26 + 16 * loaded 4 6 file)) (goodFields (loaded 1 5 file) (loaded 8 10 file) (loaded 8 18 file))
   where
     go : (a b c d e f g : Bool)
         → _≡_ {A = ℕ} (cond a 14 (cond (not b) 10 (cond (not c) 11 (cond d 12 (cond e 13 (cond (not f) 14 (cond (not g) 15 0)))))))

@@ -152,14 +152,14 @@ header-held kind period origin g m n h e = rw (h .kindIs, h .periodIs, h .origin
 pub writing-number : (kind period origin readings radii room : ℕ) → first (writing kind period origin readings radii room)
     ≡ cond (eqb readings radii)
     (cond (ltb 1 kind) 12
-    (cond (ltb 4000 readings) 13
+    (cond (ltb pointLimit readings) 13
     (cond (goodFields kind period origin)
     (cond (ltb room (26 + 16 * readings)) 16 0)
     15)))
     9
 unfolding first
 writing-number kind period origin readings radii room =
-    go (eqb readings radii) (ltb 1 kind) (ltb 4000 readings) (goodFields kind period origin) (ltb room (26 + 16 * readings))
+    go (eqb readings radii) (ltb 1 kind) (ltb pointLimit readings) (goodFields kind period origin) (ltb room (26 + 16 * readings))
   where
     go : (a b c d e : Bool)
         → _≡_ {A = ℕ} (cond (not a) 9 (cond b 12 (cond c 13 (cond (not d) 15 (cond e 16 0)))))
@@ -308,7 +308,7 @@ module _ (g : Gauge) (readings radii room : List ℕ) where
 
   pub gauge-number : writeStem g readings radii room .number
       ≡ cond (eqb (length readings) (length radii))
-      (cond (ltb 4000 (length readings)) 13
+      (cond (ltb pointLimit (length readings)) 13
       (cond (good g)
       (cond (ltb (length room) (26 + 16 * length readings)) 16 0)
       15))
@@ -356,7 +356,7 @@ module _ (file : List ℕ) (are : AreBytes file) (g : Gauge) (readings radii roo
   call-short short =
       let e : writeStem g readings radii room .number ≡ 16 =
       gauge-number g readings radii room
-      ∙ rw (eq-eqb (length readings) (length radii) same, le-ltb 4000 (length readings) few, is-row .taken, lt-ltb (length room) (26 + 16 * length readings) (omega (arith, same-long, short))) in
+      ∙ rw (eq-eqb (length readings) (length radii) same, le-ltb pointLimit (length readings) few, is-row .taken, lt-ltb (length room) (26 + 16 * length readings) (omega (arith, same-long, short))) in
       (e, gauge-left g readings radii room (λ z. omega (arith, e, z)))
 
 -- the same of what C is told of it
@@ -390,8 +390,8 @@ writer-and-reader kind period origin room ps k p o most fits =
     ∙ sym (file-number file ∙ go (length file) (fileKind file) (fileCount file) (filePeriod file) (fileOrigin file) long (kind-back kind n period origin points k) (count-back kind n period origin points most) (period-back kind n period origin points p) (origin-back kind n period origin points o))
   where
     go : (l a n b c : ℕ) → l ≡ 26 + 16 * length ps → a ≡ kind → n ≡ length ps → b ≡ period → c ≡ origin
-        → _≡_ {A = ℕ} (cond (ltb l 26) 14 (cond (ltb 1 a) 12 (cond (ltb 4000 n) 13 (cond (eqb l (26 + 16 * n)) (cond (goodFields a b c) 0 15) 14))))
-        (cond (eqb (length ps) (length ps)) (cond (ltb 1 kind) 12 (cond (ltb 4000 (length ps)) 13 (cond (goodFields kind period origin) (cond (ltb room (26 + 16 * length ps)) 16 0) 15))) 9)
+        → _≡_ {A = ℕ} (cond (ltb l 26) 14 (cond (ltb 1 a) 12 (cond (ltb pointLimit n) 13 (cond (eqb l (26 + 16 * n)) (cond (goodFields a b c) 0 15) 14))))
+        (cond (eqb (length ps) (length ps)) (cond (ltb 1 kind) 12 (cond (ltb pointLimit (length ps)) 13 (cond (goodFields kind period origin) (cond (ltb room (26 + 16 * length ps)) 16 0) 15))) 9)
     go l a n b c long kinds counts periods origins =
         rw (
           long,
@@ -400,7 +400,7 @@ writer-and-reader kind period origin room ps k p o most fits =
           periods,
           origins,
           le-ltb (26 + 16 * length ps) 26 (omega arith),
-          le-ltb 4000 (length ps) most,
+          le-ltb pointLimit (length ps) most,
           eq-eqb (26 + 16 * length ps) (26 + 16 * length ps) refl,
           eq-eqb (length ps) (length ps) refl,
           le-ltb room (26 + 16 * length ps) fits,

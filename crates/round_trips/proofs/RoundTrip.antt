@@ -5,8 +5,8 @@ use mathlib.Core.List.{List, _++_}
 use Prim.Native.Nat.{ℕ, _/_, _^_, _≤_, _<_}
 use native.Mathlib.Nat.{zero-add}
 use native.Mathlib.Omega.{arith}
-use borrow.Author.Tests.{ltb-true, ltb-false, leb-false, eq-eqb, ne-eqb}
-use lib.Dec.{ltb, leb, eqb}
+use borrow.Author.Tests.{lt-ltb, le-ltb, leb-false, eq-eqb, ne-eqb}
+use lib.Dec.{ltb, leb}
 use lib.ListN.{length, getD, take, drop, length-drop}
 use Rattle.digits.proofs.Tests.{clash}
 use Rattle.definitions.specs.Numbers.{first}
@@ -15,7 +15,7 @@ use Rattle.definitions.specs.Stem.{headerLength, pointLength, gaugeOf, fileCoun
 use Rattle.definitions.specs.StemWriter.{pointsOf, pointsIn, writing, Written, writeFields, writeStem}
 use Rattle.laws.proofs.Bytes.{AreBytes}
 use Rattle.laws.proofs.Stem.{passed, stem-number, stem-opened, opened-file}
-use Rattle.laws.proofs.StemWriter.{ArePatterns, ReadsAs, accepted, write-number, write-length, write-room, call-reads-back, call-written-again, call-short, length-from, length-pairs, place-back}
+use Rattle.laws.proofs.StemWriter.{ArePatterns, ReadsAs, accepted, write-number, write-length, write-room, call-reads-back, call-written-again, length-from, length-pairs, place-back}
 use Rattle.gauges.specs.declared.Gauge.{Gauge}
 use Rattle.gauges.specs.Held.{gaugeHeld, gaugeBits}
 use Rattle.gauges.proofs.Passes.{gauge-passes}
@@ -115,12 +115,6 @@ module _ (file readings radii room room₁ : List ℕ) (gauge : Gauge) (answer :
   pub opened-written : length file ≤ length room → writeMeaning answer room₁ ≡ record { number = 0; written = length file; room = file ++ drop (length file) room }
   opened-written fits = wrote ∙ call-written-again file are (gaugeBits gauge) readings radii room same (reads-as (stem file) refl opens) fits
 
-  -- and where it is not, 16, and nothing else
-  pub opened-short : length room < length file → (answer .number ≡ 16) × (room₁ ≡ room)
-  opened-short short =
-      let e = call-short file are (gaugeBits gauge) readings radii room same (reads-as (stem file) refl opens) short in
-      (ap (λ (w : Written). w .number) wrote ∙ e .0, ap (λ (w : Written). w .room) wrote ∙ e .1)
-
 -- ---- the number of a file that is opened and written again
 
 module _ (file : List ℕ) (gauge : Gauge) (opens : answerOf (stem file) ≡ Opened gauge) where
@@ -146,22 +140,17 @@ module _ (file : List ℕ) (gauge : Gauge) (opens : answerOf (stem file) ≡ Ope
   again-whole : (x r room : ℕ) → x ≡ length part / pointLength → r ≡ length part / pointLength → again file x r room ≡ cond (ltb room (length file)) 16 0
   again-whole x r room e f = rw (accepted-file, eq-eqb x (fileCount file) (e ∙ part-count), eq-eqb r (fileCount file) (f ∙ part-count))
 
+  pub again-short : (x r room : ℕ) → x ≡ length part / pointLength → r ≡ length part / pointLength → room < length file → 16 ≡ again file x r room
+  again-short x r room e f short = sym (again-whole x r room e f ∙ rw (lt-ltb room (length file) short))
+
   -- the call that writes it again
   pub written-back : (readings radii room room₁ : List ℕ) (answer : WriteAnswer) (x r : ℕ) → AreBytes file → length readings ≡ length radii
-      → x ≡ length part / pointLength → r ≡ length part / pointLength
+      → x ≡ length part / pointLength → r ≡ length part / pointLength → length file ≤ length room
       → pointsIn part ≡ pointsOf readings radii → writeMeaning answer room₁ ≡ writeStem (gaugeBits gauge) readings radii room
-      → (answer .number ≡ again file x r (length room)) × (room₁ ≡ cond (eqb (answer .number) 0) (file ++ drop (length file) room) room)
-  written-back readings radii room room₁ answer x r are same e f taken wrote = go (ltb (length room) (length file)) refl
-    where
-      go : (t : Bool) → ltb (length room) (length file) ≡ t
-          → (answer .number ≡ again file x r (length room)) × (room₁ ≡ cond (eqb (answer .number) 0) (file ++ drop (length file) room) room)
-      go true l =
-          let w = opened-short file readings radii room room₁ gauge answer are same opens taken wrote (ltb-true (length room) (length file) l) in
-          (w .0 ∙ sym (again-whole x r (length room) e f ∙ rw l), rw (w .0) (w .1))
-      go false l =
-          let w = opened-written file readings radii room room₁ gauge answer are same opens taken wrote (ltb-false (length room) (length file) l) in
-          let n : answer .number ≡ 0 = ap (λ (t : Written). t .number) w in
-          (n ∙ sym (again-whole x r (length room) e f ∙ rw l), rw n (ap (λ (t : Written). t .room) w))
+      → (answer .number ≡ 0) × (0 ≡ again file x r (length room)) × (room₁ ≡ file ++ drop (length file) room)
+  written-back readings radii room room₁ answer x r are same e f fits taken wrote =
+      let w = opened-written file readings radii room room₁ gauge answer are same opens taken wrote fits in
+      (ap (λ (t : Written). t .number) w, sym (again-whole x r (length room) e f ∙ rw (le-ltb (length room) (length file) fits)), ap (λ (t : Written). t .room) w)
 
 -- and of one that is refused
 pub again-refused : (file : List ℕ) (n : ℕ) → answerOf (stem file) ≡ Refused n → (x r room : ℕ) → (n ≡ again file x r room) × (n ≡ 0 → ⊥)

@@ -1,4 +1,5 @@
 // The two round trips of stem files as programs. Nothing is known here of the reader and the writer but what they promise.
+use stem_writer::SHORT_ROOM;
 use stem_writer::UNEQUAL_LISTS;
 use stem_writer::write_fields;
 use stem_writer::write_stem;
@@ -14,7 +15,7 @@ ghost use mathlib.Core.List.{_++_};
 ghost use Prim.Native.Nat.{_/_};
 ghost use lib.Dec.{eqb};
 ghost use lib.ListN.{length, drop};
-ghost use Rattle.definitions.specs.Stem.{pointLength, gaugeOf};
+ghost use Rattle.definitions.specs.Stem.{pointLength, gaugeOf, stem, stemPoints};
 ghost use Rattle.definitions.specs.StemWriter.{pointsOf, pointsIn, writeFields};
 ghost use Rattle.round_trips.specs.Trips.{opensAs, takenOut, again};
 
@@ -75,10 +76,12 @@ fn take_points(part: &[u8], readings: &mut [u64], radii: &mut [u64])
     }
 }
 
-// Opens a file, takes its points out, and writes it again.
+// Opens a file, takes its points out, and writes it again; or touches nothing.
 pub fn open_and_write(file: &[u8], readings: &mut [u64], radii: &mut [u64], room: &mut [u8]) -> u8
     ensures number { λ r. ⌜ r ≡ again (now (file .entry)) (length (now (readings .entry))) (length (now (radii .entry))) (length (now (room .entry))) ⌝ }
     ensures room { λ r. ⌜ now (room .exit) ≡ cond (eqb r 0) (now (file .entry) ++ drop (length (now (file .entry))) (now (room .entry))) (now (room .entry)) ⌝ }
+    ensures taken { λ r. ⌜ (r ≡ 0 → pointsIn (stemPoints (stem (now (file .entry)))) ≡ pointsOf (now (readings .exit)) (now (radii .exit))) ⌝ }
+    ensures kept { λ r. ⌜ ((r ≡ 0 → ⊥) → (now (readings .exit) ≡ now (readings .entry)) × (now (radii .exit) ≡ now (radii .entry))) ⌝ }
 {
     match open_stem(file) {
         StemAnswer::Refused(number) => number,
@@ -90,6 +93,9 @@ pub fn open_and_write(file: &[u8], readings: &mut [u64], radii: &mut [u64], room
             }
             if radii.len() != count {
                 return UNEQUAL_LISTS;
+            }
+            if room.len() < file.len() {
+                return SHORT_ROOM;
             }
             take_points(part, readings, radii);
             let answer = write_stem(gauge, readings, radii, room);

@@ -27,7 +27,7 @@ ghost use Rattle.stem_writer.specs.Written.{writeMeaning};
 
 pub const UNEQUAL_LISTS: u8 = 9;
 
-const SHORT_ROOM: u8 = 16;
+pub const SHORT_ROOM: u8 = 16;
 
 // The number of a call, and how long the file is that it wrote.
 pub struct WriteAnswer {

@@ -67,13 +67,11 @@ loop-again c =
     (λ w. absurd (place-held part (l .i) (omega (arith, l .inv .as-many, s .pre .0)) (sym result ∙ w .1 .given .1)))
     (λ w.
     let point = w .1 .given .0 .0 in
-    let x = length-set (l .readings) (l .i) (point .reading) in
-    let r = length-set (l .radii) (l .i) (point .radius) in
     let wide : l .i < length (l .radii) = omega (arith, l .inv .as-many, l .inv .as-many-radii, s .pre .0, s .pre .1) in
     record {
-      within = rw (w .3, x) (omega arith);
-      as-many = rw (w .3, x) (l .inv .as-many);
-      as-many-radii = rw (w .4, r) (l .inv .as-many-radii);
+      within = rw (w .3) (simp length-set (omega arith));
+      as-many = rw (w .3) (simp length-set (l .inv .as-many));
+      as-many-radii = rw (w .4) (simp length-set (l .inv .as-many-radii));
       taken = rw (add-one (l .i), w .3, w .4) (taken-more part (l .i) (l .readings) (l .radii) point (l .inv .taken) (omega arith) wide (sym result ∙ w .1 .given .1));
     })
     (c .match .came)
