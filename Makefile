@@ -181,7 +181,7 @@ rust: $(linked)
 	cd rust && $(cargo) test --release --offline --locked --no-fail-fast --features zukemoriha/std
 	cd rust && RUSTDOCFLAGS='-D warnings' $(cargo) doc --no-deps --offline --quiet
 
-# the impostors that PROOF.md lists are those that there are, and the files that the documents name exist
+# what the documents name is there, and what a host calls has no requires
 documents:
 	sh tests/documents.sh $(pages)
 

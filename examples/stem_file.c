@@ -10,6 +10,7 @@
 
 #include <math.h>
 #include <stdio.h>
+#include <stdlib.h>
 
 enum { LONGEST = ZK_STEM_HEADER + ZK_STEM_POINT * ZK_STEM_MOST };
 
@@ -21,17 +22,22 @@ static uint64_t pattern_at(const uint8_t *bytes) {
     return pattern;
 }
 
-/* A roller of 812.5 mm whose gauge began at 100.25 mm. It lost the log at the last reading. Gives the length, or 0. */
+/* A roller of 812.5 mm whose gauge began at 100.25 mm. It lost the log at the last reading. Gives the length. */
 static size_t write_sample(uint8_t *room, size_t length) {
     static const double points[][2] = {{150.75, 161.5}, {3400.25, 158.25}, {-712.5, 155.0}, {1e15 + 0.125, 151.75}, {INFINITY, 150.0}};
     enum { COUNT = sizeof points / sizeof *points };
     uint64_t period = zk_pattern_of_double(812.5), origin = zk_pattern_of_double(100.25), readings[COUNT], radii[COUNT];
-    size_t i, written = 0;
+    size_t i, written;
+    uint8_t number;
     for (i = 0; i < COUNT; i++) {
         readings[i] = zk_pattern_of_double(points[i][0]);
         radii[i] = zk_pattern_of_double(points[i][1]);
     }
-    zk_stem_write(ZK_ROLLER, period, origin, readings, COUNT, radii, COUNT, room, length, &written); /* a refusal leaves the 0 */
+    number = zk_stem_write(ZK_ROLLER, period, origin, readings, COUNT, radii, COUNT, room, length, &written);
+    if (number != ZK_FINISHED) {
+        printf("the sample: refused with %u\n", number);
+        exit(1);
+    }
     return written;
 }
 

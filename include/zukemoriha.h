@@ -9,17 +9,17 @@
  *   - Every bit pattern is taken. A function always returns one of the numbers 0 to 16 below.
  *   - 0, 1 and 7 are answers: everything that the function promises has been written. All other numbers are refusals: what was lent is
  *     as it was, byte for byte, *value, *quotient, *marked, *written, the block and the room included.
- *   - Where several refusals apply, the first in the order 9, 6, 2, 3, 4, 5, 8 is returned; 7 comes after them. Stem files have an order
- *     of their own (zk_stem_open, zk_stem_write).
+ *   - Where several refusals apply, the first in the order 9, 6, 2, 3, 4, 5, 8 is returned; 7 comes after them. Stem files have orders
+ *     of their own (zk_stem_open, zk_stem_fold, zk_stem_write).
  *   - kind: 0 is the truncated remainder (C's fmod, the processor's FPREM), any other number is the nearest one (C's remainder, IEEE 754,
  *     FPREM1). The kind of a stem file is another thing: ZK_TURN or ZK_ROLLER, and no other number.
- *   - The host's duty, which no function can check: each pointer is not null, is aligned for its type, and points to memory that holds
- *     what it is lent for, also where a length is 0; and no place that is lent to be written overlaps another.
+ *   - The host's duty, which no function can check: each pointer is not null and is aligned for its type, also where a length is 0; it
+ *     points to memory that holds what it is lent for; and no place that is lent to be written overlaps another.
  *   - No function keeps a pointer, asks for memory or has state: calls from many threads do not meet. Values are computed in integers: no
  *     rounding mode and no flushing of denormals changes an answer, no status flag is touched, and no function traps, whatever exceptions
  *     the host has unmasked. One thing is left: zk_stem_open, zk_stem_fold and zk_stem_write compare a period and an origin with
- *     themselves as doubles, and zk_stem_fold a reading. Where one of them is a denormal, that sets the processor's denormal-operand flag,
- *     and traps if the host has unmasked this exception.
+ *     themselves as doubles, and zk_stem_fold a reading. Where one of them is a denormal, that may set the processor's denormal-operand
+ *     flag, and trap if the host has unmasked this exception.
  *
  * The archive is compiled for x86-64 Linux.
  *

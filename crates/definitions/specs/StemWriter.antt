@@ -10,17 +10,18 @@ use Rattle.definitions.specs.Stem.{Gauge, Point, gaugeOf, kindOf, period
 
 -- ---- points as lists
 
--- [12.2] two lists of patterns, place by place
+-- [12.2] two lists of patterns, place by place, as far as both go
 abbrev pub pointsOf : List ℕ → List ℕ → List Point
 pointsOf [] radii = []
 pointsOf (x ∷ readings) [] = []
 pointsOf (x ∷ readings) (r ∷ radii) = record { reading = x; radius = r } ∷ pointsOf readings radii
 
--- [12.6] the points that the reader finds at n places of a part from a place on, and at all places
+-- [12.6] the points that the reader finds at n places of a part, from place i on
 abbrev pub pointsFrom : ℕ → ℕ → List ℕ → List Point
 pointsFrom i zero points = []
 pointsFrom i (suc n) points = pointAt points i ∷ pointsFrom (suc i) n points
 
+-- and at all of its places
 abbrev pub pointsIn : List ℕ → List Point
 pointsIn points = pointsFrom 0 (length points / pointLength) points
 

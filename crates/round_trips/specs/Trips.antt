@@ -1,4 +1,4 @@
--- What the round trips give. Nothing to believe: these only name the code's own values, and the numbers of one call and then another.
+-- What the round trips give, in the code's own values: the whole of their contracts.
 use Prim.Native.Nat.{ℕ}
 use mathlib.Core.Bool.{cond, _&&_}
 use mathlib.Core.List.{List}

@@ -26,7 +26,7 @@ pub const POINT_LIMIT: u32 = 4000;
 
 pub const VERSION: u16 = 1;
 
-// The numbers of refusals, in the order of the checks; the last is that of a bad gauge.
+// The numbers of refusals, in the order of the checks; the last, a bad gauge's, stands with gauges.
 const TOO_SHORT: u8 = 14;
 
 const BAD_MARK: u8 = 10;
