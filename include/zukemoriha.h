@@ -24,8 +24,8 @@
  * The archive is compiled for x86-64 Linux.
  *
  * The remainder of x by y is x - Q*y with Q the quotient |x|/|y|, cut (truncated) or rounded to nearest, a half to the even one (nearest),
- * with the sign of x/y. It is exact. A zero result has the sign of x. Quotient bits are those of |Q| modulo 8. By an infinite y a finite x
- * is returned, with quotient bits 0.
+ * with the sign of x/y. It is exact. A zero result has the sign of x. The quotient that is told is |Q| modulo 2^31, its low 31 bits; where
+ * a byte shows it, in a folded list and in byte 11 of a block, it is |Q| modulo 8. By an infinite y a finite x is returned, with quotient 0.
  *
  * Where a function returns x (with quotient 0, as by an infinite y; scaling by 0; scaling a split x back; a run with budget 0), it returns
  * the bits of x, with one exception: an x87 pseudo-denormal, which is a number like any other, comes back in its ordinary pattern (see
@@ -85,20 +85,24 @@ enum zk_says {
 #define ZK_MARK 255u
 #define ZK_HOUSE_NAN64 UINT64_C(0x7FF8000000000000)
 
+/* Quotients are told modulo this, 2^31: those of the calls of one chain are added modulo it. */
+#define ZK_QUOTIENT_MODULUS UINT32_C(0x80000000)
+
 /*
- * The block that a step or a run writes: 16 bytes, all of them written with 0, 1 and 7.
+ * The block that a step or a run writes: 20 bytes, all of them written with 0, 1 and 7.
  *
  *   byte  0 to 7   significand of the value, little-endian
  *   byte  8 to 9   sign-and-exponent word of the value, little-endian
  *   byte 10        the number, the same as the one returned
- *   byte 11        quotient bits, 0 to 7: those of this step's quotient part, or those of a run's parts added up, modulo 8
+ *   byte 11        the quotient of bytes 16 to 19 modulo 8: 0 to 7
  *   byte 12 to 15  steps taken, little-endian: 1 for a step
+ *   byte 16 to 19  the quotient, 0 to 2^31 - 1, little-endian: this step's quotient part, or a run's parts added up, modulo 2^31
  */
-#define ZK_BLOCK_LENGTH 16u
+#define ZK_BLOCK_LENGTH 20u
 
 /*
  * Remainder in one call. Returns 0, or refuses with 2 (x87 only), 3, 4 or 5.
- * *value gets the remainder, *quotient the three quotient bits (0 to 7).
+ * *value gets the remainder, *quotient the magnitude |Q| modulo 2^31 (0 to 2^31 - 1).
  */
 uint8_t zk_rem16(uint16_t x, uint16_t y, uint32_t kind, uint16_t *value, uint32_t *quotient);
 uint8_t zk_rem32(uint32_t x, uint32_t y, uint32_t kind, uint32_t *value, uint32_t *quotient);
@@ -118,19 +122,29 @@ uint8_t zk_rem64(uint64_t x, uint64_t y, uint32_t kind, uint64_t *value, uint32_
 uint8_t zk_rem80(uint64_t x, uint16_t xw, uint64_t y, uint16_t yw, uint32_t kind, uint64_t *value, uint16_t *valuew, uint32_t *quotient);
 
 /*
+ * The same, and the quotient has the sign of x/y: *quotient gets |Q| modulo 2^31, below zero where just one of x and y is negative. It is
+ * from -(2^31 - 1) to 2^31 - 1, and 0 where |Q| modulo 2^31 is 0, whatever the signs. With ZK_NEAREST this is C's remquo, with 31 bits of
+ * the quotient where C asks for three; where C's gives a NaN, a call is refused and *value and *quotient stay as they were.
+ */
+uint8_t zk_remquo16(uint16_t x, uint16_t y, uint32_t kind, uint16_t *value, int32_t *quotient);
+uint8_t zk_remquo32(uint32_t x, uint32_t y, uint32_t kind, uint32_t *value, int32_t *quotient);
+uint8_t zk_remquo64(uint64_t x, uint64_t y, uint32_t kind, uint64_t *value, int32_t *quotient);
+uint8_t zk_remquo80(uint64_t x, uint16_t xw, uint64_t y, uint16_t yw, uint32_t kind, uint64_t *value, uint16_t *valuew, int32_t *quotient);
+
+/*
  * One step, as FPREM (kind 0) or FPREM1 makes it, with the size n that the manuals leave to the processor. D is the exponent of the
  * leading one of x less that of y, whatever their fields are, and 0 for a zero x; an infinite y finishes. If D < 64 the step finishes (0)
- * with the remainder and the quotient bits of one call. Otherwise it is partial (1): with QQ = |x|/|y|/2^(D-n) cut, in both kinds, the
- * value is x less QQ * 2^(D-n) times y, and the quotient bits are those of QQ * 2^(D-n), modulo 8. A zero partial value is still partial:
- * the next step finishes.
+ * with the remainder and the quotient of one call. Otherwise it is partial (1): with QQ = |x|/|y|/2^(D-n) cut, in both kinds, the value is
+ * x less QQ * 2^(D-n) times y, and the quotient is that part, QQ * 2^(D-n), modulo 2^31. A zero partial value is still partial: the next
+ * step finishes.
  * Refuses with 9, 6, 2, 3, 4 or 5. length is the block's length in bytes.
  */
 uint8_t zk_step80(uint64_t x, uint16_t xw, uint64_t y, uint16_t yw, uint32_t size, uint32_t kind, uint8_t *block, size_t length);
 
 /*
- * Steps of one size until one finishes (0) or the budget is spent (7). Quotient bits are the sum of all parts taken, modulo 8, and steps
- * is how many steps were taken. A run that ended with 7 may be continued from its value: steps and quotient bits are to be added. With
- * budget 0 the value is x.
+ * Steps of one size until one finishes (0) or the budget is spent (7). The quotient is the sum of all parts taken, modulo 2^31, and steps
+ * is how many steps were taken. A run that ended with 7 may be continued from its value: steps are to be added, and quotients modulo 2^31.
+ * With budget 0 the value is x.
  * Refuses with 9, 6, 2, 3, 4 or 5.
  */
 uint8_t zk_run80(uint64_t x, uint16_t xw, uint64_t y, uint16_t yw, uint32_t size, uint32_t kind, uint32_t budget, uint8_t *block,
@@ -158,8 +172,8 @@ uint8_t zk_split64(uint64_t x, uint64_t *significand, int32_t *exponent);
 uint8_t zk_split80(uint64_t x, uint16_t xw, uint64_t *significand, uint16_t *significandw, int32_t *exponent);
 
 /*
- * Folds a list: results[i] and quotients[i] get the remainder of x[i] by y and its quotient bits. A NaN or infinite x[i] gets
- * ZK_HOUSE_NAN64 and the byte ZK_MARK instead, and *marked gets the number of those places. nx, nr and nq count elements.
+ * Folds a list: results[i] and quotients[i] get the remainder of x[i] by y and |Q| modulo 8. A NaN or infinite x[i] gets ZK_HOUSE_NAN64
+ * and the byte ZK_MARK instead, and *marked gets the number of those places. nx, nr and nq count elements.
  * Returns 0, or refuses the whole list with 9 (the three lengths are not equal), 3 (y is NaN) or 5 (y is zero), also if it is empty.
  */
 uint8_t zk_fold64(const uint64_t *x, size_t nx, uint64_t *results, size_t nr, uint8_t *quotients, size_t nq, uint64_t y, uint32_t kind,
@@ -287,7 +301,8 @@ static inline uint8_t zk_block_number(const uint8_t *block) {
     return block[10];
 }
 
-static inline uint8_t zk_block_quotient(const uint8_t *block) {
+/* The quotient modulo 8. */
+static inline uint8_t zk_block_octant(const uint8_t *block) {
     return block[11];
 }
 
@@ -295,9 +310,13 @@ static inline uint32_t zk_block_steps(const uint8_t *block) {
     return (uint32_t)block[12] | (uint32_t)block[13] << 8 | (uint32_t)block[14] << 16 | (uint32_t)block[15] << 24;
 }
 
+static inline uint32_t zk_block_quotient(const uint8_t *block) {
+    return (uint32_t)block[16] | (uint32_t)block[17] << 8 | (uint32_t)block[18] << 16 | (uint32_t)block[19] << 24;
+}
+
 /*
  * The octant as the processor's flags show it: C0, C3 and C1 are bits 2, 1 and 0 of a finished step's quotient. The octant of a whole
- * chain is in the sum of its steps' quotient bits modulo 8, not in the last step's alone: a partial step may touch the low three bits.
+ * chain is in the sum of its steps' quotients modulo 8, not in the last step's alone: a partial step may touch the low three bits.
  */
 static inline int zk_c0(uint32_t quotient) {
     return (int)(quotient >> 2 & 1);
