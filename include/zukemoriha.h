@@ -24,8 +24,9 @@
  * The archive is compiled for x86-64 Linux.
  *
  * The remainder of x by y is x - Q*y with Q the quotient |x|/|y|, cut (truncated) or rounded to nearest, a half to the even one (nearest),
- * with the sign of x/y. It is exact. A zero result has the sign of x. The quotient that is told is |Q| modulo 2^31, its low 31 bits; where
- * a byte shows it, in a folded list and in byte 11 of a block, it is |Q| modulo 8. By an infinite y a finite x is returned, with quotient 0.
+ * with the sign of x/y. It is exact. A zero result has the sign of x. The quotient that is told is |Q| modulo 2^31, its low 31 bits. Where
+ * one byte shows it, in a folded list and in byte 11 of a block, it is |Q| modulo 8. By an infinite y a finite x is returned, with
+ * quotient 0.
  *
  * Where a function returns x (with quotient 0, as by an infinite y; scaling by 0; scaling a split x back; a run with budget 0), it returns
  * the bits of x, with one exception: an x87 pseudo-denormal, which is a number like any other, comes back in its ordinary pattern (see
