@@ -1,4 +1,4 @@
--- What the stores leave in a block of 16 bytes is the definition's. Assumes nothing.
+-- What the stores leave in a block of 20 bytes is the definition's. Assumes nothing.
 use mathlib.Core.Path.{_≡_, sym, ap, _∙_}
 use mathlib.Core.List.{List, [], _∷_, _++_, append-nil}
 use Prim.Native.Nat.{ℕ, _+_, _*_, _^_, _≤_, _<_}
@@ -7,6 +7,7 @@ use native.Mathlib.Omega.{arith}
 use lib.ListN.{length, set, drop}
 use lib.Seq.{sets, length-sets, sets-eq, drop-length}
 use Rattle.definitions.specs.Bytes.{bytesOf}
+use Rattle.definitions.specs.Remainder.{shown}
 use Rattle.definitions.specs.Block.{blockOf}
 use Rattle.definitions.specs.Reports.{blockLength}
 use Rattle.laws.proofs.Bytes.{bytes-joined}
@@ -29,17 +30,22 @@ behind k n l vs h =
     ∙ ap (λ (i : ℕ). sets (sets l 0 vs) i (bytesOf k n)) (sym (zero-add (length vs)))
     ∙ sets-joined l 0 vs (bytesOf k n)
 
--- the value's significand, its word, two bytes more, and the steps
-pub filled : (s w n q t : ℕ) → s < 2 ^ 64 → (l l₁ l₂ l₃ : List ℕ) → length l ≡ blockLength → l₁ ≡ stored 8 0 s l → l₂ ≡ stored 2 8 w l₁ → l₃ ≡ stored 4 12 t (set (set l₂ 10 n) 11 q)
-    → l₃ ≡ blockOf (record { number = n; value = w * 2 ^ 64 + s; quotient = q; steps = t })
+-- the value's significand, its word, two bytes more, the steps and the quotient
+pub filled : (s w n q b t : ℕ) → s < 2 ^ 64 → b ≡ shown q → (l l₁ l₂ l₃ l₄ : List ℕ) → length l ≡ blockLength → l₁ ≡ stored 8 0 s l → l₂ ≡ stored 2 8 w l₁ → l₃ ≡ stored 4 12 t (set (set l₂ 10 n) 11 b) → l₄ ≡ stored 4 16 q l₃
+    → l₄ ≡ blockOf (record { number = n; value = w * 2 ^ 64 + s; quotient = q; steps = t })
 unfolding blockOf
-filled s w n q t h l l₁ l₂ l₃ e e₁ e₂ e₃ =
+filled s w n q b t h eb l l₁ l₂ l₃ l₄ e e₁ e₂ e₃ e₄ =
     let value = bytesOf 8 s ++ bytesOf 2 w in
-    let head = value ++ (n ∷ q ∷ []) in
+    let head = value ++ (n ∷ b ∷ []) in
     let word : l₂ ≡ sets l 0 value = e₂ ∙ ap (stored 2 8 w) (e₁ ∙ behind 8 s l [] (omega arith)) ∙ behind 2 w l (bytesOf 8 s) (omega arith) in
+    let counted : l₃ ≡ sets l 0 (head ++ bytesOf 4 t) =
     e₃
-    ∙ ap (λ (r : List ℕ). stored 4 12 t (set (set r 10 n) 11 q)) word
-    ∙ ap (stored 4 12 t) (sets-joined l 0 value (n ∷ q ∷ []))
-    ∙ behind 4 t l head (omega arith)
-    ∙ all-stored (head ++ bytesOf 4 t) l e
-    ∙ ap (λ (v : List ℕ). v ++ (n ∷ q ∷ bytesOf 4 t)) (sym (bytes-joined 8 2 s w h))
+    ∙ ap (λ (r : List ℕ). stored 4 12 t (set (set r 10 n) 11 b)) word
+    ∙ ap (stored 4 12 t) (sets-joined l 0 value (n ∷ b ∷ []))
+    ∙ behind 4 t l head (omega arith) in
+    e₄
+    ∙ ap (stored 4 16 q) counted
+    ∙ behind 4 q l (head ++ bytesOf 4 t) (omega arith)
+    ∙ all-stored (head ++ bytesOf 4 t ++ bytesOf 4 q) l e
+    ∙ ap (λ (c : ℕ). value ++ (n ∷ c ∷ (bytesOf 4 t ++ bytesOf 4 q))) eb
+    ∙ ap (λ (v : List ℕ). v ++ (n ∷ shown q ∷ (bytesOf 4 t ++ bytesOf 4 q))) (sym (bytes-joined 8 2 s w h))

@@ -9,11 +9,11 @@ use lib.Dec.{eqb}
 use Rattle.definitions.specs.Format.{classOf, x87}
 use Rattle.definitions.specs.declared.Kind.{Kind}
 use Rattle.definitions.specs.Division.{Outcome, dividendOf, divisorOf}
-use Rattle.definitions.specs.Remainder.{quotientBits}
 use Rattle.definitions.specs.Steps.{step, flagsOf}
 use Rattle.definitions.specs.Numbers.{first, accepted}
 use Rattle.definitions.specs.Reports.{Lent, stepReport}
 use Rattle.digits.proofs.Tests.{clash}
+use Rattle.laws.proofs.Remainder.{shown-bits}
 use Rattle.chains.proofs.Spent.{Judgement, refused, passed, result}
 
 bit : (b : ℕ) → b < 2 → cond (eqb b 1) 1 0 ≡ b
@@ -37,17 +37,13 @@ octant r = cond (flagsOf r .c0) 1 0 * 4 + cond (flagsOf r .c3) 1 0 * 2 + cond (f
 flags-are-bits : (r : Outcome) → octant r ≡ r .whole % 8
 flags-are-bits r = rw (bit (r .whole / 4 % 2) (omega arith), bit (r .whole / 2 % 2) (omega arith), bit (r .whole % 2) (omega arith)) (three (r .whole))
 
--- three bits are left of what an answer shows of a quotient
-bits-left : (w : ℕ) → w % 8 ≡ quotientBits w % 8
-bits-left w = omega arith
-
 -- on a finished step it is the three low bits of the quotient that the step reports
 pub finished-flags : (l : Lent) (κ : Kind) (n x y : ℕ) → stepReport l κ n x y .number ≡ 0
     → octant (step κ n (divisorOf (classOf x87 y)) (dividendOf (classOf x87 x))) ≡ stepReport l κ n x y .quotient % 8
 unfolding stepReport
 finished-flags l κ n x y e =
     let r = step κ n (divisorOf (classOf x87 y)) (dividendOf (classOf x87 x)) in
-    rw e (flags-are-bits r ∙ bits-left (r .whole))
+    rw e (flags-are-bits r ∙ sym (shown-bits (r .whole)))
 
 partial-number : {i z : Bool} {number : ℕ → ℕ} (d : Bool) → Judgement i z number → accepted (number (cond (not d) 1 0)) ≡ true
     → not d ≡ eqb (number (cond (not d) 1 0)) 1

@@ -1,14 +1,11 @@
--- What a step or a run reports fits where it is written: its value is an x87 pattern, an ordinary one, and its quotient bits are a byte.
--- Assumes nothing.
+-- What a step or a run reports fits where it is written: its value is an x87 pattern, and an ordinary one. Assumes nothing.
 use mathlib.Core.Path.{_≡_, refl, subst}
 use mathlib.Core.Bool.{Bool, true, false, not, cond}
 use Prim.Native.Nat.{ℕ, _<_}
-use native.Mathlib.Omega.{arith}
-use lib.Dec.{lit<}
 use Rattle.definitions.specs.Class.{Class, unsupported, nan, infinite, finite}
 use Rattle.definitions.specs.Format.{Representable, classOf, patternOf, patterns, ordinary, x87}
 use Rattle.definitions.specs.Numbers.{first, accepted, isZero}
-use Rattle.definitions.specs.Remainder.{quotientBits, refusedValue}
+use Rattle.definitions.specs.Remainder.{refusedValue}
 use Rattle.definitions.specs.declared.Kind.{Kind}
 use Rattle.definitions.specs.Division.{Outcome, dividendOf, divisorOf}
 use Rattle.definitions.specs.Steps.{run}
@@ -24,20 +21,11 @@ use Rattle.chains.proofs.Continued.{held}
 pub record Small (r : Report ℕ) : Type 0 where
   pub value : r .value < patterns x87
   pub ordinary : ordinary x87 (r .value) ≡ true
-  pub quotient : r .quotient < 256
-
--- quotient bits are few
-bits-small : (q : ℕ) → quotientBits q < 256
-bits-small q = omega arith
 
 -- an answer of a representable value, and a refusal
 of-result : (n : ℕ) (r : Outcome) → Result x87 (reportOf n r .value) → Small (reportOf n r)
 of-result n r k =
-    record { value = result-small x87 regular80 k; ordinary = result-ordinary x87 regular80 k; quotient = go (accepted n) }
-  where
-    go : (t : Bool) → cond t (quotientBits (r .whole)) 0 < 256
-    go true = bits-small (r .whole)
-    go false = lit< tt
+    record { value = result-small x87 regular80 k; ordinary = result-ordinary x87 regular80 k }
 
 of-answer : (n : ℕ) (r : Outcome) → Representable x87 (r .value .count) → Small (reportOf n r)
 of-answer n r h = of-result n r (go (accepted n))

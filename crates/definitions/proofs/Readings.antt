@@ -2,38 +2,53 @@
 use mathlib.Core.Path.{_≡_, refl}
 use mathlib.Core.Bool.{true, false}
 use mathlib.Core.List.{[], _∷_, map}
+use Prim.Native.Nat.{ℕ}
 use lib.Ieee.{size}
 use Rattle.definitions.specs.Class.{gap}
 use Rattle.definitions.specs.Format.{classOf, patternOf, magnitude, ordinary, houseNan, binary16, binary32, binary64, x87}
 use Rattle.definitions.specs.Numbers.{first}
 use Rattle.definitions.specs.Division.{finish}
+use Rattle.definitions.specs.Remainder.{shown}
 use Rattle.definitions.specs.Steps.{step, run}
 use Rattle.definitions.specs.Table.{computed, readings, longReadings, allComputed, allExpected}
-use Rattle.definitions.specs.Samples.{refusals, answered, pseudoDenormals}
+use Rattle.definitions.specs.Samples.{refusals, answered, pseudoDenormals, longQuotients, signedQuotients}
 
 -- readings 1 to 10
-pub readings-hold : allComputed readings ≡ allExpected readings
+pub readings-hold : allComputed shown readings ≡ allExpected readings
 unfolding computed readings size gap classOf patternOf magnitude first finish step run
 readings-hold = refl
 
 -- readings 11 and 12, and a partial value that falls far
-pub long-readings-hold : allComputed longReadings ≡ allExpected longReadings
+pub long-readings-hold : allComputed shown longReadings ≡ allExpected longReadings
 unfolding computed longReadings size gap classOf patternOf magnitude first finish step run
 long-readings-hold = refl
 
+-- all that is told of a quotient
+abbrev all : ℕ → ℕ
+all q = q
+
 -- every refusal, and answers beside them
-pub refusals-hold : allComputed refusals ≡ allExpected refusals
+pub refusals-hold : allComputed all refusals ≡ allExpected refusals
 unfolding computed refusals size gap classOf patternOf magnitude first finish step run
 refusals-hold = refl
 
-pub answered-hold : allComputed answered ≡ allExpected answered
+pub answered-hold : allComputed all answered ≡ allExpected answered
 unfolding computed answered size gap classOf patternOf magnitude first finish step run
 answered-hold = refl
 
 -- pseudo-denormals
-pub pseudo-denormals-hold : allComputed pseudoDenormals ≡ allExpected pseudoDenormals
+pub pseudo-denormals-hold : allComputed all pseudoDenormals ≡ allExpected pseudoDenormals
 unfolding computed pseudoDenormals size gap classOf patternOf magnitude first finish step run
 pseudo-denormals-hold = refl
+
+-- [3.6, 3.8] quotients of many bits, and with their signs
+pub long-quotients-hold : allComputed all longQuotients ≡ allExpected longQuotients
+unfolding computed longQuotients size gap classOf patternOf magnitude first finish step run
+long-quotients-hold = refl
+
+pub signed-quotients-hold : allComputed all signedQuotients ≡ allExpected signedQuotients
+unfolding computed signedQuotients size gap classOf patternOf magnitude first finish step run
+signed-quotients-hold = refl
 
 -- [2.10] which patterns are ordinary: around the field 0, at both of its ends and with either sign; in another format all of them
 pub ordinary-patterns : (map (ordinary x87)

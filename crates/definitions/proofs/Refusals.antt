@@ -10,11 +10,12 @@ use lib.Dec.{leb, eqb}
 use lib.IntN.{ℤ, pos}
 use lib.ListN.{length, getD}
 use Rattle.digits.proofs.Tests.{clash, not-zero}
-use Rattle.definitions.specs.Class.{Value, Class, unsupported, nan, infinite, finite}
+use Rattle.definitions.specs.Class.{Value, Class, unsupported, nan, infinite, finite, signed}
 use Rattle.definitions.specs.Format.{Format, x87, classOf, fieldsClass, houseNan, topField}
 use Rattle.definitions.specs.Numbers.{first, accepted, dividing, isUnsupported, isNan, isInfinite, isZero}
 use Rattle.definitions.specs.Division.{dividendOf, divisorOf}
 use Rattle.definitions.specs.Remainder.{remainder, remainderOf, refusedValue}
+use Rattle.definitions.specs.Signed.{signedRemainder, signedOf}
 use Rattle.definitions.specs.Steps.{step, run}
 use Rattle.definitions.specs.Reports.{Lent, fitting, sized, stepping, running, stepReport, runReport}
 use Rattle.definitions.specs.Scale.{scaleReport, scaleOf, splitReport, splitOf, scaling, splitting}
@@ -25,20 +26,27 @@ use Rattle.definitions.specs.declared.Layout.{Layout}
 use Rattle.definitions.specs.declared.Layout.the-variants.{Hidden, Explicit}
 use Rattle.definitions.specs.declared.Rounding.the-variants.{Exact}
 
+-- [3.8] 0 has no sign
+pub signed-zero : (s : Bool) → signed s 0 ≡ pos 0
+signed-zero true = refl
+signed-zero false = refl
+
 -- a refusal has its number, the refusal's value, and nothing else
 pub refused-tells : (f : Format) (l : Lent) (κ : Kind) (n b x y : ℕ) (k : ℤ)
     → let r = remainder f κ x y in
+    let g = signedRemainder f κ x y in
     let s = stepReport l κ n x y in
     let t = runReport l κ n b x y in
     let u = scaleReport f x k in
     let v = splitReport f x in
     (accepted (r .number) ≡ false → r ≡ record { number = r .number; value = refusedValue f; quotient = 0 })
+    × (accepted (g .number) ≡ false → g ≡ record { number = g .number; value = refusedValue f; quotient = pos 0 })
     × (accepted (s .number) ≡ false → s ≡ record { number = s .number; value = refusedValue x87; quotient = 0; steps = 0 })
     × (accepted (t .number) ≡ false → t ≡ record { number = t .number; value = refusedValue x87; quotient = 0; steps = 0 })
     × (accepted (u .number) ≡ false → u ≡ record { number = u .number; value = refusedValue f; says = Exact })
     × (accepted (v .number) ≡ false → v ≡ record { number = v .number; significand = refusedValue f; exponent = pos 0 })
-unfolding remainder remainderOf stepReport runReport scaleReport scaleOf splitReport splitOf
-refused-tells f l κ n b x y k = (λ e. rw e, λ e. rw e, λ e. rw e, λ e. rw e, λ e. rw e)
+unfolding remainder remainderOf signedRemainder signedOf stepReport runReport scaleReport scaleOf splitReport splitOf
+refused-tells f l κ n b x y k = (λ e. rw e, λ e. rw (e, signed-zero), λ e. rw e, λ e. rw e, λ e. rw e, λ e. rw e)
 
 -- [2.9] and that value is the house NaN
 pub refused-value : (f : Format) → refusedValue f ≡ houseNan f
@@ -96,10 +104,11 @@ remainder-numbers s t n m = rw (some m)
 -- the remainder, scaling and splitting have no other
 pub pattern-numbers : (f : Format) (κ : Kind) (x y : ℕ) (k : ℤ)
     → (remainder f κ x y .number ≡ first (dividing (classOf f x) (classOf f y)))
+    × (signedRemainder f κ x y .number ≡ first (dividing (classOf f x) (classOf f y)))
     × (scaleReport f x k .number ≡ first (scaling (classOf f x)))
     × (splitReport f x .number ≡ first (splitting (classOf f x)))
-unfolding remainder remainderOf scaleReport scaleOf splitReport splitOf
-pattern-numbers f κ x y k = (refl, refl, refl)
+unfolding remainder remainderOf signedRemainder signedOf scaleReport scaleOf splitReport splitOf
+pattern-numbers f κ x y k = (refl, refl, refl, refl)
 
 -- of scaling, of splitting, and of a list's divisor, which is never unsupported
 pub scaling-numbers : (s : Bool) (n : ℕ) → map (λ x. first (scaling x)) (classes s n) ≡ 2 ∷ 3 ∷ 0 ∷ 0 ∷ 0 ∷ []
@@ -164,8 +173,8 @@ pub sizes : (k : ℕ) → (k < 32 → sized k ≡ false) × (k < 32 → sized (3
 sizes k =
     (λ h. rw (lt-leb 32 k h), λ h. rw (le-leb 32 (32 + k) (omega arith), le-leb (32 + k) 63 (omega arith)), rw (le-leb 32 (64 + k) (omega arith), lt-leb (64 + k) 63 (omega arith)))
 
--- [9.3] a lent block fits if it has 16 bytes
-pub lent-blocks : (held : List ℕ) → fitting (lending held) ≡ eqb (length held) 16
+-- [9.3] a lent block fits if it has 20 bytes
+pub lent-blocks : (held : List ℕ) → fitting (lending held) ≡ eqb (length held) 20
 lent-blocks held = refl
 
 -- [2.6] an x87 pattern is unsupported if its leading digit is missing and its field is not 0

@@ -25,10 +25,11 @@ use Rattle.definitions.specs.Fold.{Folded, foldList}
 use Rattle.definitions.specs.declared.Refusal.the-variants as why
 use Rattle.definitions.specs.declared.Pattern.{Pattern}
 use Rattle.definitions.specs.declared.RemainderAnswer.the-variants as rem
+use Rattle.definitions.specs.declared.SignedAnswer.the-variants as sgn
 use Rattle.definitions.specs.declared.StepsAnswer.the-variants as steps
 use Rattle.definitions.specs.declared.ScaleAnswer.the-variants as scale
 use Rattle.definitions.specs.declared.SplitAnswer.the-variants as split
-use Rattle.definitions.specs.Answers.{refusalNumber, remainderMeaning, stepsMeaning, stepMeaning, runMeaning, scaleMeaning, splitMeaning}
+use Rattle.definitions.specs.Answers.{refusalNumber, remainderMeaning, signedMeaning, stepsMeaning, stepMeaning, runMeaning, scaleMeaning, splitMeaning}
 use Rattle.definitions.specs.Block.{kindOf, blockAfter}
 use Rattle.definitions.specs.Line.{isHex, digitOf, lineFor, outputFor}
 use Rattle.definitions.specs.Exports.{after, significandIn, wordIn, saysNumber}
@@ -106,6 +107,12 @@ pub fold-nearest : foldList Nearest 0x4000000000000000 readings sevens sevens
 unfolding foldList remainder size gap classOf patternOf magnitude first finish
 fold-nearest = refl
 
+-- three bits are shown: 511 and 21 by 2
+pub fold-shown : foldList Truncated 0x4000000000000000 (0x407FF00000000000 ∷ 0x4035000000000000 ∷ []) (7 ∷ 7 ∷ []) (7 ∷ 7 ∷ [])
+    ≡ record { number = 0; results = 0x3FF0000000000000 ∷ 0x3FF0000000000000 ∷ []; quotients = 7 ∷ 2 ∷ []; marked = 0 }
+unfolding foldList remainder size gap classOf patternOf magnitude first finish
+fold-shown = refl
+
 -- by infinity each finite one is itself
 pub fold-infinite : foldList Nearest 0xFFF0000000000000 (0x4016000000000000 ∷ 0x7FF0000000000000 ∷ []) (7 ∷ 7 ∷ []) (7 ∷ 7 ∷ [])
     ≡ record { number = 0; results = 0x4016000000000000 ∷ 0x7FF8000000000000 ∷ []; quotients = 0 ∷ 255 ∷ []; marked = 1 }
@@ -122,22 +129,22 @@ pub fold-untouched : (foldList Truncated 0x7FF0000000000001 readings sevens seve
 unfolding foldList remainder size gap classOf patternOf magnitude first finish
 fold-untouched = (refl, refl, refl, refl, refl, refl)
 
--- ---- [9.4, 9.6] the block of reading 7, of a step by infinity, and of a report with four bytes of steps; a refusal leaves what was lent
+-- ---- [9.4, 9.6] the block of reading 7, of a step by infinity, and of a report with four bytes of steps and of its quotient; a refusal leaves what was lent
 abbrev zeros : List ℕ
-zeros = 0 ∷ 0 ∷ 0 ∷ 0 ∷ 0 ∷ 0 ∷ 0 ∷ 0 ∷ 0 ∷ 0 ∷ 0 ∷ 0 ∷ 0 ∷ 0 ∷ 0 ∷ 0 ∷ []
+zeros = 0 ∷ 0 ∷ 0 ∷ 0 ∷ 0 ∷ 0 ∷ 0 ∷ 0 ∷ 0 ∷ 0 ∷ 0 ∷ 0 ∷ 0 ∷ 0 ∷ 0 ∷ 0 ∷ 0 ∷ 0 ∷ 0 ∷ 0 ∷ []
 
 pub block-partial : blockAfter zeros (stepReport nothing Truncated 63 0x40408000000000000000 0x4000C000000000000000)
-    ≡ 0 ∷ 0 ∷ 0 ∷ 0 ∷ 0 ∷ 0 ∷ 0 ∷ 0x80 ∷ 0x00 ∷ 0x40 ∷ 1 ∷ 2 ∷ 1 ∷ 0 ∷ 0 ∷ 0 ∷ []
+    ≡ 0 ∷ 0 ∷ 0 ∷ 0 ∷ 0 ∷ 0 ∷ 0 ∷ 0x80 ∷ 0x00 ∷ 0x40 ∷ 1 ∷ 2 ∷ 1 ∷ 0 ∷ 0 ∷ 0 ∷ 0xAA ∷ 0xAA ∷ 0xAA ∷ 0x2A ∷ []
 unfolding blockAfter stepReport size gap classOf patternOf magnitude first finish step
 block-partial = refl
 
 pub block-finished : blockAfter zeros (stepReport nothing Truncated 63 0xC0DF8123456789ABCDEF 0x7FFF8000000000000000)
-    ≡ 0xEF ∷ 0xCD ∷ 0xAB ∷ 0x89 ∷ 0x67 ∷ 0x45 ∷ 0x23 ∷ 0x81 ∷ 0xDF ∷ 0xC0 ∷ 0 ∷ 0 ∷ 1 ∷ 0 ∷ 0 ∷ 0 ∷ []
+    ≡ 0xEF ∷ 0xCD ∷ 0xAB ∷ 0x89 ∷ 0x67 ∷ 0x45 ∷ 0x23 ∷ 0x81 ∷ 0xDF ∷ 0xC0 ∷ 0 ∷ 0 ∷ 1 ∷ 0 ∷ 0 ∷ 0 ∷ 0 ∷ 0 ∷ 0 ∷ 0 ∷ []
 unfolding blockAfter stepReport size gap classOf patternOf magnitude first finish step
 block-finished = refl
 
-pub block-steps : blockAfter zeros (record { number = 7; value = 0; quotient = 5; steps = 0x01020304 })
-    ≡ 0 ∷ 0 ∷ 0 ∷ 0 ∷ 0 ∷ 0 ∷ 0 ∷ 0 ∷ 0 ∷ 0 ∷ 7 ∷ 5 ∷ 4 ∷ 3 ∷ 2 ∷ 1 ∷ []
+pub block-steps : blockAfter zeros (record { number = 7; value = 0; quotient = 0x1A1B1C1D; steps = 0x01020304 })
+    ≡ 0 ∷ 0 ∷ 0 ∷ 0 ∷ 0 ∷ 0 ∷ 0 ∷ 0 ∷ 0 ∷ 0 ∷ 7 ∷ 5 ∷ 4 ∷ 3 ∷ 2 ∷ 1 ∷ 0x1D ∷ 0x1C ∷ 0x1B ∷ 0x1A ∷ []
 unfolding blockAfter
 block-steps = refl
 
@@ -161,14 +168,15 @@ kinds = (refl, λ k. rw (not-zero (suc k) (omega arith)))
 pub meanings : (f : Format) (v : Pattern) (q n : ℕ) (r : Rounding) (e : ℤ)
     → let b = v .high * 2 ^ 64 + v .low in
     (remainderMeaning f (rem.Finished v q) ≡ record { number = 0; value = b; quotient = q })
+    × (signedMeaning f (sgn.Finished v e) ≡ record { number = 0; value = b; quotient = e })
     × (stepMeaning (steps.Finished v q n) ≡ record { number = 0; value = b; quotient = q; steps = n })
     × (stepMeaning (steps.Unfinished v q n) ≡ record { number = 1; value = b; quotient = q; steps = n })
     × (runMeaning (steps.Finished v q n) ≡ record { number = 0; value = b; quotient = q; steps = n })
     × (runMeaning (steps.Unfinished v q n) ≡ record { number = 7; value = b; quotient = q; steps = n })
     × (scaleMeaning f (scale.Scaled v r) ≡ record { number = 0; value = b; says = r })
     × (splitMeaning f (split.Parts v e) ≡ record { number = 0; significand = b; exponent = e })
-unfolding remainderMeaning stepsMeaning scaleMeaning splitMeaning
-meanings f v q n r e = (refl, refl, refl, refl, refl, refl, refl)
+unfolding remainderMeaning signedMeaning stepsMeaning scaleMeaning splitMeaning
+meanings f v q n r e = (refl, refl, refl, refl, refl, refl, refl, refl)
 
 -- [7.1] the number of each refusal of the code
 pub refusal-numbers : map refusalNumber (why.BadLength ∷ why.BadSize ∷ why.Unsupported ∷ why.Nan ∷ why.Infinite ∷ why.ZeroDivisor ∷ why.ZeroSplit ∷ [])
@@ -184,9 +192,9 @@ madeFrom cs = made (answer Truncated 0x3FFF8000000000000000) cs dividend
 
 pub last-values : map (λ cs. lastValue dividend (answers (madeFrom cs)))
     ([]
-    ∷ (calls.step nothing 31 ∷ calls.run nothing 64 0 ∷ calls.run (block 15) 32 0 ∷ [])
+    ∷ (calls.step nothing 31 ∷ calls.run nothing 64 0 ∷ calls.run (block 16) 32 0 ∷ [])
     ∷ (calls.run nothing 32 0 ∷ [])
-    ∷ (calls.run (block 17) 32 0 ∷ calls.run nothing 32 0 ∷ calls.step nothing 31 ∷ [])
+    ∷ (calls.run (block 21) 32 0 ∷ calls.run nothing 32 0 ∷ calls.step nothing 31 ∷ [])
     ∷ (calls.run nothing 63 0 ∷ calls.step nothing 63 ∷ [])
     ∷ [])
     ≡ dividend ∷ dividend ∷ 0x00018000000000000001 ∷ 0x00018000000000000001 ∷ 0x00018000000000000001 ∷ []
@@ -214,8 +222,8 @@ pub users-lines : outputFor (text "4016000000000000 4000000000000000\n3FF0000000
 unfolding outputFor lineFor remainder size gap classOf patternOf magnitude first finish
 users-lines = refl
 
-pub more-lines : outputFor (text "c08fffffFFFFFFFF 3fe0000000000001\n\n7FF0000000000001 0000000000000000\nfff0000000000000 7FF0000000000000")
-    ≡ text "BFDFFFFFFFFFE802 7 0\nbad line\n7FF8000000000000 0 3\n7FF8000000000000 0 4\n"
+pub more-lines : outputFor (text "c08fffffFFFFFFFF 3fe0000000000001\n\n7FF0000000000001 0000000000000000\nfff0000000000000 7FF0000000000000\n407FF00000000000 4000000000000000")
+    ≡ text "BFDFFFFFFFFFE802 7 0\nbad line\n7FF8000000000000 0 3\n7FF8000000000000 0 4\n3FF0000000000000 7 0\n"
 unfolding outputFor lineFor remainder size gap classOf patternOf magnitude first finish
 more-lines = refl
 

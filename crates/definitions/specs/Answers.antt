@@ -7,6 +7,8 @@ use Rattle.definitions.specs.declared.Refusal.the-variants as why
 use Rattle.definitions.specs.declared.Rounding.the-variants.{Exact}
 use Rattle.definitions.specs.declared.RemainderAnswer.{RemainderAnswer}
 use Rattle.definitions.specs.declared.RemainderAnswer.the-variants as rem
+use Rattle.definitions.specs.declared.SignedAnswer.{SignedAnswer}
+use Rattle.definitions.specs.declared.SignedAnswer.the-variants as sgn
 use Rattle.definitions.specs.declared.StepsAnswer.{StepsAnswer}
 use Rattle.definitions.specs.declared.StepsAnswer.the-variants as steps
 use Rattle.definitions.specs.declared.ScaleAnswer.{ScaleAnswer}
@@ -15,6 +17,7 @@ use Rattle.definitions.specs.declared.SplitAnswer.{SplitAnswer}
 use Rattle.definitions.specs.declared.SplitAnswer.the-variants as split
 use Rattle.definitions.specs.Format.{Format, x87, words}
 use Rattle.definitions.specs.Remainder.{Remainder, refusedValue}
+use Rattle.definitions.specs.Signed.{SignedRemainder}
 use Rattle.definitions.specs.Reports.{Report}
 use Rattle.definitions.specs.Scale.{ScaleReport, SplitReport}
 
@@ -35,6 +38,10 @@ joined p = words (p .high) (p .low)
 unfoldable pub remainderMeaning : Format → RemainderAnswer → Remainder
 remainderMeaning f (rem.Finished v q) = record { number = 0; value = joined v; quotient = q }
 remainderMeaning f (rem.Refused w) = record { number = refusalNumber w; value = refusedValue f; quotient = 0 }
+
+unfoldable pub signedMeaning : Format → SignedAnswer → SignedRemainder
+signedMeaning f (sgn.Finished v q) = record { number = 0; value = joined v; quotient = q }
+signedMeaning f (sgn.Refused w) = record { number = refusalNumber w; value = refusedValue f; quotient = pos 0 }
 
 -- a call of which an unfinished one has the number u. A refused call reports no steps.
 unfoldable pub stepsMeaning : ℕ → StepsAnswer → Report ℕ

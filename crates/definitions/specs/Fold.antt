@@ -8,7 +8,7 @@ use Rattle.definitions.specs.Class.{Class}
 use Rattle.definitions.specs.Format.{classOf, binary64}
 use Rattle.definitions.specs.Numbers.{Check, check, first, isNan, isInfinite, isZero}
 use Rattle.definitions.specs.declared.Kind.{Kind}
-use Rattle.definitions.specs.Remainder.{remainder}
+use Rattle.definitions.specs.Remainder.{remainder, shown}
 
 -- [8.2] what a divisor is refused for, for the whole list
 abbrev pub dividingList : Class → List Check
@@ -27,7 +27,7 @@ unfoldable pub resultAt : Kind → ℕ → ℕ → ℕ
 resultAt κ y x = remainder binary64 κ x y .value
 
 unfoldable pub byteAt : Kind → ℕ → ℕ → ℕ
-byteAt κ y x = cond (bad x) 255 (remainder binary64 κ x y .quotient)
+byteAt κ y x = cond (bad x) 255 (shown (remainder binary64 κ x y .quotient))
 
 -- [8.4] how many are
 unfoldable pub badPlaces : List ℕ → ℕ

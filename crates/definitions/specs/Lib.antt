@@ -4,6 +4,7 @@ pub mod Format
 pub mod Numbers
 pub mod Division
 pub mod Remainder
+pub mod Signed
 pub mod Steps
 pub mod Reports
 pub mod Calls

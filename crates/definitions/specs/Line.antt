@@ -7,7 +7,7 @@ use lib.Dec.{leb, ltb, eqb}
 use lib.ListN.{length, getD, take, drop}
 use Rattle.definitions.specs.Format.{binary64}
 use Rattle.definitions.specs.declared.Kind.the-variants.{Truncated}
-use Rattle.definitions.specs.Remainder.{Remainder, remainder}
+use Rattle.definitions.specs.Remainder.{Remainder, remainder, shown}
 
 -- [10.1] a hex digit in either case
 abbrev pub isHex : ℕ → Bool
@@ -40,7 +40,7 @@ hexDigits (suc k) n = upperHex (n / 16 ^ k % 16) ∷ hexDigits k n
 
 -- [10.2] the line of an answer
 unfoldable pub answerLine : Remainder → List ℕ
-answerLine r = hexDigits 16 (r .value) ++ (32 ∷ (48 + r .quotient) ∷ 32 ∷ (48 + r .number) ∷ [])
+answerLine r = hexDigits 16 (r .value) ++ (32 ∷ (48 + shown (r .quotient)) ∷ 32 ∷ (48 + r .number) ∷ [])
 
 -- [10.3] the line of any other: bad line
 abbrev pub badLine : List ℕ

@@ -1,5 +1,5 @@
 -- The remainder of two patterns, with its number and quotient bits. Definitions only.
-use Prim.Native.Nat.{ℕ, _%_}
+use Prim.Native.Nat.{ℕ, _%_, _^_}
 use mathlib.Core.Bool.{cond}
 use Rattle.definitions.specs.Class.{Class, finite}
 use Rattle.definitions.specs.Format.{Format, classOf, patternOf, houseNan}
@@ -7,12 +7,19 @@ use Rattle.definitions.specs.Numbers.{first, accepted, dividing}
 use Rattle.definitions.specs.declared.Kind.{Kind}
 use Rattle.definitions.specs.Division.{Outcome, finish, dividendOf, divisorOf}
 
--- [3.6] how many quotients an answer tells apart: here, and nowhere else in the definitions
+-- [3.6] how many quotients an answer tells apart, and how many are shown where there is one byte or one digit for them: here, and nowhere
+-- else in the definitions
 abbrev pub quotientModulus : ℕ
-quotientModulus = 8
+quotientModulus = 2 ^ 31
+
+abbrev pub shownModulus : ℕ
+shownModulus = 8
 
 abbrev pub quotientBits : ℕ → ℕ
 quotientBits q = q % quotientModulus
+
+abbrev pub shown : ℕ → ℕ
+shown q = q % shownModulus
 
 -- what a refusal returns as its value: the house NaN, in this one place
 abbrev pub refusedValue : Format → ℕ

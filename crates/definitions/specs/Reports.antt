@@ -24,7 +24,7 @@ pub data Lent : Type 0 where
   block : (length : ℕ) → Lent
 
 abbrev pub blockLength : ℕ
-blockLength = 16
+blockLength = 20
 
 abbrev pub fitting : Lent → Bool
 fitting nothing = true

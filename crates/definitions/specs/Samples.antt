@@ -9,7 +9,7 @@ use Rattle.definitions.specs.Format.{binary16, binary32, binary64, x87}
 use Rattle.definitions.specs.declared.Kind.the-variants.{Truncated, Nearest}
 use Rattle.definitions.specs.declared.Rounding.the-variants.{Exact, Down}
 use Rattle.definitions.specs.Reports.{nothing, block}
-use Rattle.definitions.specs.Table.{Reading, reading, divide, step, twoSteps, run, scale, split, value, steps, scaled, parts}
+use Rattle.definitions.specs.Table.{Reading, reading, divide, divideSigned, step, twoSteps, run, scale, split, value, signedValue, steps, scaled, parts}
 
 -- every refusal, in every operation on patterns that knows it: the house NaN, nothing else, and the first number that applies
 unfoldable pub refusals : List Reading
@@ -50,23 +50,24 @@ refusals =
     -- 8: a zero that is split
     ∷ reading (split binary16 0x8000) (parts 8 0x7E00 (pos 0))
     ∷ reading (split x87 0x00000000000000000000) (parts 8 0x7FFFC000000000000000 (pos 0))
-    -- 9: a block that is not 16 bytes, before the size
-    ∷ reading (step (block 15) Truncated 31 0x7FFFC000000000000001 0x00000000000000000000) (steps 9 0x7FFFC000000000000000 0 0)
-    ∷ reading (run (block 17) Nearest 63 5 0x3FFF8000000000000000 0x3FFF8000000000000000) (steps 9 0x7FFFC000000000000000 0 0)
+    -- 9: a block that is not 20 bytes, before the size
+    ∷ reading (step (block 19) Truncated 31 0x7FFFC000000000000001 0x00000000000000000000) (steps 9 0x7FFFC000000000000000 0 0)
+    ∷ reading (run (block 21) Nearest 63 5 0x3FFF8000000000000000 0x3FFF8000000000000000) (steps 9 0x7FFFC000000000000000 0 0)
+    ∷ reading (step (block 16) Nearest 63 0x3FFF8000000000000000 0x3FFF8000000000000000) (steps 9 0x7FFFC000000000000000 0 0)
     ∷ []
 
 -- answers at the edges of these rules
 unfoldable pub answered : List Reading
 answered =
-    -- the sizes 32 and 63, a block of 16 bytes, and a budget of 0, which leaves the dividend
-    reading (step (block 16) Truncated 32 0x3FFF8000000000000000 0x3FFF8000000000000000) (steps 0 0x00000000000000000000 1 1)
-    ∷ reading (step (block 16) Nearest 63 0x3FFF8000000000000000 0x3FFF8000000000000000) (steps 0 0x00000000000000000000 1 1)
-    ∷ reading (run (block 16) Nearest 63 0 0x3FFF8000000000000000 0x3FFF8000000000000000) (steps 7 0x3FFF8000000000000000 0 0)
+    -- the sizes 32 and 63, a block of 20 bytes, and a budget of 0, which leaves the dividend
+    reading (step (block 20) Truncated 32 0x3FFF8000000000000000 0x3FFF8000000000000000) (steps 0 0x00000000000000000000 1 1)
+    ∷ reading (step (block 20) Nearest 63 0x3FFF8000000000000000 0x3FFF8000000000000000) (steps 0 0x00000000000000000000 1 1)
+    ∷ reading (run (block 20) Nearest 63 0 0x3FFF8000000000000000 0x3FFF8000000000000000) (steps 7 0x3FFF8000000000000000 0 0)
     -- runs that are spent, and what one step more gives: 2^66 by 3 at size 63, with quotient bits, and 2^128 by 3 at size 32, without
-    ∷ reading (run nothing Truncated 63 1 0x40418000000000000000 0x4000C000000000000000) (steps 7 0x40018000000000000000 4 1)
-    ∷ reading (run nothing Nearest 63 2 0x40418000000000000000 0x4000C000000000000000) (steps 0 0x3FFF8000000000000000 5 2)
+    ∷ reading (run nothing Truncated 63 1 0x40418000000000000000 0x4000C000000000000000) (steps 7 0x40018000000000000000 0x55555554 1)
+    ∷ reading (run nothing Nearest 63 2 0x40418000000000000000 0x4000C000000000000000) (steps 0 0x3FFF8000000000000000 0x55555555 2)
     ∷ reading (run nothing Truncated 32 2 0x407F8000000000000000 0x4000C000000000000000) (steps 7 0x403F8000000000000000 0 2)
-    ∷ reading (run nothing Nearest 32 3 0x407F8000000000000000 0x4000C000000000000000) (steps 0 0x3FFF8000000000000000 5 3)
+    ∷ reading (run nothing Nearest 32 3 0x407F8000000000000000 0x4000C000000000000000) (steps 0 0x3FFF8000000000000000 0x55555555 3)
     -- an infinite divisor
     ∷ reading (divide binary16 Nearest 0xBC01 0x7C00) (value 0 0xBC01 0)
     ∷ reading (step nothing Truncated 50 0xC0DE8123456789ABCDEF 0xFFFF8000000000000000) (steps 0 0xC0DE8123456789ABCDEF 0 1)
@@ -95,8 +96,8 @@ pseudoDenormals =
     ∷ reading (divide x87 Truncated 0x0000FFFFFFFFFFFFFFFF 0x00008000000000000000) (value 0 0x00007FFFFFFFFFFFFFFF 1)
     ∷ reading (divide x87 Nearest 0x8000C000000000000000 0x0001C000000000000000) (value 0 0x80000000000000000000 1)
     -- steps and runs: a partial step by one, as reading 7, one by infinity, and a budget of 0
-    ∷ reading (step nothing Nearest 63 0x00418000000000000000 0x0000C000000000000000) (steps 1 0x00018000000000000000 2 1)
-    ∷ reading (twoSteps Nearest 63 0x00418000000000000000 0x0000C000000000000000) (steps 0 0x80004000000000000000 3 2)
+    ∷ reading (step nothing Nearest 63 0x00418000000000000000 0x0000C000000000000000) (steps 1 0x00018000000000000000 0x2AAAAAAA 1)
+    ∷ reading (twoSteps Nearest 63 0x00418000000000000000 0x0000C000000000000000) (steps 0 0x80004000000000000000 0x2AAAAAAB 2)
     ∷ reading (step nothing Truncated 32 0x80008000000000000001 0xFFFF8000000000000000) (steps 0 0x80018000000000000001 0 1)
     ∷ reading (run nothing Nearest 32 0 0x00008000000000000001 0x0000C000000000000000) (steps 7 0x00018000000000000001 0 0)
     -- two refused steps return nothing: the value is the dividend as given, and 7 stands for no number
@@ -107,6 +108,55 @@ pseudoDenormals =
     ∷ reading (scale x87 0x00008000000000000001 (pos 1)) (scaled 0 0x00028000000000000001 Exact)
     -- split
     ∷ reading (split x87 0x8000C000000000000000) (parts 0 0xBFFFC000000000000000 (negsuc 16381))
+    ∷ []
+
+-- [3.6] quotients of more than three bits, all that is told of them
+unfoldable pub longQuotients : List Reading
+longQuotients =
+    -- around 2^31, 2^32 and 3 times 2^30, by 1; 2^31 less a half goes to the even quotient
+    reading (divide binary64 Truncated 0x41DFFFFFFFC00000 0x3FF0000000000000) (value 0 0x0000000000000000 2147483647)
+    ∷ reading (divide binary64 Truncated 0x41E0000000000000 0x3FF0000000000000) (value 0 0x0000000000000000 0)
+    ∷ reading (divide binary64 Nearest 0x41E0000000200000 0x3FF0000000000000) (value 0 0x0000000000000000 1)
+    ∷ reading (divide binary64 Truncated 0x41F0000000000000 0x3FF0000000000000) (value 0 0x0000000000000000 0)
+    ∷ reading (divide binary64 Nearest 0x41E8000000000000 0x3FF0000000000000) (value 0 0x0000000000000000 1073741824)
+    ∷ reading (divide binary64 Truncated 0x41DFFFFFFFE00000 0x3FF0000000000000) (value 0 0x3FE0000000000000 2147483647)
+    ∷ reading (divide binary64 Nearest 0x41DFFFFFFFE00000 0x3FF0000000000000) (value 0 0xBFE0000000000000 0)
+    -- 2^65 by 3, size 63: the partial step of reading 7, and the step after it, added up; a part that ends in 32 zeros
+    ∷ reading (step nothing Truncated 63 0x40408000000000000000 0x4000C000000000000000) (steps 1 0x40008000000000000000 0x2AAAAAAA 1)
+    ∷ reading (twoSteps Nearest 63 0x40408000000000000000 0x4000C000000000000000) (steps 0 0xBFFF8000000000000000 0x2AAAAAAB 2)
+    ∷ reading (step nothing Truncated 32 0x40408000000000000000 0x4000C000000000000000) (steps 1 0x40208000000000000000 0 1)
+    -- parts that come to 2^31 together: 2^31 - 2 and 2
+    ∷ reading (step nothing Nearest 63 0x407E80000001BFFFFFFE 0x403E80000001FFFFFFFF) (steps 1 0x403F80000001BFFFFFFF 2147483646 1)
+    ∷ reading (twoSteps Nearest 63 0x407E80000001BFFFFFFE 0x403E80000001FFFFFFFF) (steps 0 0xC01E8000000000000000 0 2)
+    ∷ reading (run nothing Truncated 63 2 0x407E80000001BFFFFFFE 0x403E80000001FFFFFFFF) (steps 0 0x403E800000017FFFFFFF 2147483647 2)
+    ∷ []
+
+-- [3.8] quotients with their signs
+unfoldable pub signedQuotients : List Reading
+signedQuotients =
+    -- 7 by 2 with both signs, in both kinds; a quotient that is less than 1, and 2^31, which is 0
+    reading (divideSigned binary64 Nearest 0x401C000000000000 0x4000000000000000) (signedValue 0 0xBFF0000000000000 (pos 4))
+    ∷ reading (divideSigned binary64 Nearest 0xC01C000000000000 0x4000000000000000) (signedValue 0 0x3FF0000000000000 (negsuc 3))
+    ∷ reading (divideSigned binary64 Truncated 0x401C000000000000 0xC000000000000000) (signedValue 0 0x3FF0000000000000 (negsuc 2))
+    ∷ reading (divideSigned binary64 Truncated 0xC01C000000000000 0xC000000000000000) (signedValue 0 0xBFF0000000000000 (pos 3))
+    ∷ reading (divideSigned binary64 Truncated 0xBFF0000000000000 0x4000000000000000) (signedValue 0 0xBFF0000000000000 (pos 0))
+    ∷ reading (divideSigned binary64 Nearest 0xC1E0000000000000 0x3FF0000000000000) (signedValue 0 0x8000000000000000 (pos 0))
+    -- the ends of the range, and one more than half of it
+    ∷ reading (divideSigned binary64 Truncated 0x41DFFFFFFFC00000 0x3FF0000000000000) (signedValue 0 0x0000000000000000 (pos 2147483647))
+    ∷ reading (divideSigned binary64 Nearest 0x41DFFFFFFFC00000 0xBFF0000000000000) (signedValue 0 0x0000000000000000 (negsuc 2147483646))
+    ∷ reading (divideSigned binary64 Nearest 0xC1E8000000000000 0x3FF0000000000000) (signedValue 0 0x8000000000000000 (negsuc 1073741823))
+    -- zeros, and infinite divisors
+    ∷ reading (divideSigned binary32 Nearest 0x80000000 0x3F800000) (signedValue 0 0x80000000 (pos 0))
+    ∷ reading (divideSigned binary32 Truncated 0xC0B00000 0x7F800000) (signedValue 0 0xC0B00000 (pos 0))
+    -- the other formats: 1000 by -3, -5.5 by 2, a pseudo-denormal by the smallest denormal
+    ∷ reading (divideSigned binary16 Truncated 0x63D0 0xC200) (signedValue 0 0x3C00 (negsuc 332))
+    ∷ reading (divideSigned binary32 Nearest 0xC0B00000 0x40000000) (signedValue 0 0x3F000000 (negsuc 2))
+    ∷ reading (divideSigned x87 Truncated 0x8000FFFFFFFFFFFFFFFF 0x00000000000000000001) (signedValue 0 0x80000000000000000000 (negsuc 2147483646))
+    -- refused: every number
+    ∷ reading (divideSigned x87 Truncated 0x80010000000000000000 0x3FFF8000000000000000) (signedValue 2 0x7FFFC000000000000000 (pos 0))
+    ∷ reading (divideSigned binary64 Nearest 0xBFF0000000000000 0x7FF8000000000000) (signedValue 3 0x7FF8000000000000 (pos 0))
+    ∷ reading (divideSigned binary16 Truncated 0xFC00 0x4000) (signedValue 4 0x7E00 (pos 0))
+    ∷ reading (divideSigned binary32 Nearest 0xC0B00000 0x00000000) (signedValue 5 0x7FC00000 (pos 0))
     ∷ []
 
 -- ---- texts as bytes

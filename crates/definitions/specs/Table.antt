@@ -1,5 +1,5 @@
 -- Worked examples, with the answers that the library's users expect: ten as one table of what is asked and what is told, and a second
--- table of longer ones. Definitions only.
+-- table of longer ones. Both show quotients modulo 8. Definitions only.
 use Prim.Native.Nat.{ℕ}
 use mathlib.Core.List.{List, [], _∷_}
 use lib.IntN.{ℤ, pos, negsuc}
@@ -7,6 +7,7 @@ use Rattle.definitions.specs.Format.{Format, binary32}
 use Rattle.definitions.specs.declared.Kind.{Kind}
 use Rattle.definitions.specs.declared.Kind.the-variants.{Truncated, Nearest}
 use Rattle.definitions.specs.Remainder.{Remainder, remainder}
+use Rattle.definitions.specs.Signed.{SignedRemainder, signedRemainder}
 use Rattle.definitions.specs.Reports.{Report, Lent, nothing, stepReport, runReport}
 use Rattle.definitions.specs.Calls as calls
 use Rattle.definitions.specs.Calls.{answer, made, answers, lastValue, lastNumber, totalQuotient, totalSteps}
@@ -17,25 +18,31 @@ use Rattle.definitions.specs.Scale.{ScaleReport, SplitReport, scaleRepor
 -- what is asked: a call, or two steps that are added up
 pub data Asked : Type 0 where
   divide : Format → Kind → (x y : ℕ) → Asked
+  divideSigned : Format → Kind → (x y : ℕ) → Asked
   step : Lent → Kind → (size x y : ℕ) → Asked
   twoSteps : Kind → (size x y : ℕ) → Asked
   run : Lent → Kind → (size budget x y : ℕ) → Asked
   scale : Format → (x : ℕ) → (power : ℤ) → Asked
   split : Format → (x : ℕ) → Asked
 
--- what is told: a number, a value and quotient bits; with the steps where they are counted; a scaled value, and what is said of it; or a
--- significand and its exponent
+-- what is told: a number, a value and quotient bits, or the quotient with its sign; with the steps where they are counted; a scaled value,
+-- and what is said of it; or a significand and its exponent
 pub data Told : Type 0 where
   value : (number pattern quotient : ℕ) → Told
+  signedValue : (number pattern : ℕ) → (quotient : ℤ) → Told
   steps : (number pattern quotient taken : ℕ) → Told
   scaled : (number pattern : ℕ) → Rounding → Told
   parts : (number pattern : ℕ) → (exponent : ℤ) → Told
 
-abbrev toldRemainder : Remainder → Told
-toldRemainder r = value (r .number) (r .value) (r .quotient)
+-- `s` is what a table shows of a quotient
+abbrev toldRemainder : (ℕ → ℕ) → Remainder → Told
+toldRemainder s r = value (r .number) (r .value) (s (r .quotient))
 
-abbrev toldReport : Report ℕ → Told
-toldReport r = steps (r .number) (r .value) (r .quotient) (r .steps)
+abbrev toldSigned : SignedRemainder → Told
+toldSigned r = signedValue (r .number) (r .value) (r .quotient)
+
+abbrev toldReport : (ℕ → ℕ) → Report ℕ → Told
+toldReport s r = steps (r .number) (r .value) (s (r .quotient)) (r .steps)
 
 abbrev toldScale : ScaleReport → Told
 toldScale r = scaled (r .number) (r .value) (r .says)
@@ -43,16 +50,17 @@ toldScale r = scaled (r .number) (r .value) (r .says)
 abbrev toldSplit : SplitReport → Told
 toldSplit r = parts (r .number) (r .significand) (r .exponent)
 
-unfoldable pub computed : Asked → Told
-unfolding remainder stepReport runReport answer made answers lastValue lastNumber totalQuotient totalSteps scaleReport splitReport
-computed (divide f κ x y) = toldRemainder (remainder f κ x y)
-computed (step l κ n x y) = toldReport (stepReport l κ n x y)
-computed (twoSteps κ n x y) =
+unfoldable pub computed : (ℕ → ℕ) → Asked → Told
+unfolding remainder signedRemainder stepReport runReport answer made answers lastValue lastNumber totalQuotient totalSteps scaleReport splitReport
+computed s (divide f κ x y) = toldRemainder s (remainder f κ x y)
+computed s (divideSigned f κ x y) = toldSigned (signedRemainder f κ x y)
+computed s (step l κ n x y) = toldReport s (stepReport l κ n x y)
+computed s (twoSteps κ n x y) =
     let ts = made (answer κ y) (calls.step nothing n ∷ calls.step nothing n ∷ []) x in
-    steps (lastNumber 7 (answers ts)) (lastValue x (answers ts)) (totalQuotient ts) (totalSteps ts)
-computed (run l κ n b x y) = toldReport (runReport l κ n b x y)
-computed (scale f x k) = toldScale (scaleReport f x k)
-computed (split f x) = toldSplit (splitReport f x)
+    steps (lastNumber 7 (answers ts)) (lastValue x (answers ts)) (s (totalQuotient ts)) (totalSteps ts)
+computed s (run l κ n b x y) = toldReport s (runReport l κ n b x y)
+computed s (scale f x k) = toldScale (scaleReport f x k)
+computed s (split f x) = toldSplit (splitReport f x)
 
 pub record Reading : Type 0 where
   pub asked : Asked
@@ -110,9 +118,9 @@ longReadings =
     ∷ []
 
 -- what the definitions tell of each row, and what is expected of it
-abbrev pub allComputed : List Reading → List Told
-allComputed [] = []
-allComputed (r ∷ rs) = computed (r .asked) ∷ allComputed rs
+abbrev pub allComputed : (ℕ → ℕ) → List Reading → List Told
+allComputed s [] = []
+allComputed s (r ∷ rs) = computed s (r .asked) ∷ allComputed s rs
 
 abbrev pub allExpected : List Reading → List Told
 allExpected [] = []

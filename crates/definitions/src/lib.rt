@@ -44,6 +44,12 @@ pub enum RemainderAnswer {
     Refused(Refusal),
 }
 
+// The same, the quotient with the sign of x/y.
+pub enum SignedAnswer {
+    Finished { value: Pattern, quotient: i32 },
+    Refused(Refusal),
+}
+
 // A step, or a run of steps. An unfinished step was partial, and an unfinished run has spent its budget.
 pub enum StepsAnswer {
     Finished {

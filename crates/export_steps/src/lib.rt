@@ -1,4 +1,4 @@
-// The exports of the step and the run, on numbers and a lent block of 16 bytes for the answer.
+// The exports of the step and the run, on numbers and a lent block of 20 bytes for the answer.
 use block::write;
 use checks::number_of;
 use definitions::Refusal;
@@ -12,7 +12,7 @@ ghost use Rattle.definitions.specs.Block.{kindOf, blockAfter};
 ghost use Rattle.definitions.specs.Exports.{lending};
 
 // The length of the block, and the numbers of a partial step and of a run with a spent budget.
-const BLOCK_LENGTH: usize = 16;
+const BLOCK_LENGTH: usize = 20;
 
 const PARTIAL: u8 = 1;
 

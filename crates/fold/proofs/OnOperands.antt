@@ -7,7 +7,7 @@ use Rattle.definitions.specs.Class.{finite}
 use Rattle.definitions.specs.Format.{Representable, binary64, classOf, patternOf}
 use Rattle.definitions.specs.Numbers.{first, isZero}
 use Rattle.definitions.specs.Division.{finish, dividendOf, divisorOf}
-use Rattle.definitions.specs.Remainder.{quotientBits}
+use Rattle.definitions.specs.Remainder.{quotientBits, shown}
 use Rattle.definitions.specs.Answers.{joined}
 use Rattle.definitions.specs.Fold.{dividingList, bad}
 use Rattle.definitions.specs.declared.Kind.{Kind}
@@ -44,14 +44,15 @@ module _ (x : ℕ) (o : Operand) (e : o ≡ operandOf (binary64 .smallest) (clas
     dividend-stands = stands-value binary64 sound64 (dividendOf (classOf binary64 x)) o held is-value
 
     -- the place that is written
-    pub written : (κ : Kind) (y : Divisor) (p : Pattern) (q : ℕ) → StandsDivisor binary64 y
+    pub written : (κ : Kind) (y : Divisor) (p : Pattern) (q b : ℕ) → StandsDivisor binary64 y
         → joined p ≡ patternOf binary64 (finite (finish κ (divisorIn (binary64 .smallest) y) (valueOperand (binary64 .smallest) o) .value))
         → q ≡ quotientBits (finish κ (divisorIn (binary64 .smallest) y) (valueOperand (binary64 .smallest) o) .whole)
-        → record { value = p .low; byte = q } ≡ placeBy κ (divisorIn (binary64 .smallest) y) x
-    written κ y p q sy ep eq =
+        → b ≡ shown q
+        → record { value = p .low; byte = b } ≡ placeBy κ (divisorIn (binary64 .smallest) y) x
+    written κ y p q b sy ep eq eb =
         let v = value-of binary64 sound64 (dividendOf (classOf binary64 x)) o held is-value in
         let l = low-word p _ (rw v at ep) (pattern-small binary64 (sound64 .regular) _ (finish-stands binary64 sound64 κ y (dividendOf (classOf binary64 x)) sy held)) in
-        rw (g, l, eq, v)
+        rw (g, l, eb, eq, v)
 
 -- the divisor of a whole list, which was judged
 module _ (y : ℕ) (o : Operand) (e : o ≡ operandOf (binary64 .smallest) (classOf binary64 y)) where

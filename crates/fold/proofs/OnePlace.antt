@@ -2,19 +2,19 @@
 use mathlib.Core.Path.{_≡_, refl}
 use mathlib.Core.Bool.{Bool, true, false, not, cond, _||_}
 use Prim.Native.Nat.{ℕ, _<_}
-use native.Mathlib.Nat.{mod-lt}
 use native.Mathlib.Omega.{arith}
 use borrow.Author.Tests.{ne-eqb}
-use lib.Dec.{eqb, lit<}
+use lib.Dec.{eqb}
 use Rattle.digits.proofs.Tests.{clash}
 use Rattle.definitions.specs.Class.{Class, unsupported, nan, infinite, finite}
 use Rattle.definitions.specs.Format.{binary64, classOf}
 use Rattle.definitions.specs.Numbers.{first, accepted, dividing, isUnsupported, isNan, isInfinite}
 use Rattle.definitions.specs.Division.{Divisor, dividendOf, divisorOf}
-use Rattle.definitions.specs.Remainder.{remainderOf, remainder, quotientBits, quotientModulus}
+use Rattle.definitions.specs.Remainder.{remainderOf, remainder, shown}
 use Rattle.definitions.specs.Fold.{dividingList, bad, resultAt, byteAt}
 use Rattle.definitions.specs.declared.Kind.{Kind}
 use Rattle.definitions.proofs.Refusals.{supported}
+use Rattle.laws.proofs.Fold.{quotient-shown}
 use Rattle.checks.proofs.Judged.{AcceptedDivisor, accepted-divisor}
 use Rattle.fold.specs.Places.{placeBy}
 use Rattle.fold.specs.declared.Place.{Place}
@@ -29,15 +29,11 @@ finite-class (finite v) u g = refl
 pub good-finite : (x : ℕ) → bad x ≡ false → classOf binary64 x ≡ finite (dividendOf (classOf binary64 x))
 good-finite x = finite-class (classOf binary64 x) (supported binary64 refl x)
 
--- no quotient bits are the mark
-quotient-small : (q : ℕ) → quotientBits q < quotientModulus
-quotient-small q = mod-lt q (lit< tt)
-
 -- a place's byte is 255 exactly if its dividend is NaN or infinite
 pub marked : (κ : Kind) (d : Divisor) (x : ℕ) → eqb (placeBy κ d x .byte) 255 ≡ bad x
-marked κ d x = go (bad x) _ _ refl (quotient-small _)
+marked κ d x = go (bad x) _ _ refl (quotient-shown _)
   where
-    go : (b : Bool) (m p : Place) → m .byte ≡ 255 → p .byte < quotientModulus → eqb (cond b m p .byte) 255 ≡ b
+    go : (b : Bool) (m p : Place) → m .byte ≡ 255 → p .byte < 8 → eqb (cond b m p .byte) 255 ≡ b
     go true m p e h = rw e
     go false m p e h = ne-eqb (p .byte) 255 (λ e. omega arith)
 
@@ -63,8 +59,8 @@ module _ (κ : Kind) (y x : ℕ) (d : first (dividingList (classOf binary64 y)) 
 
   pub byte-at : placeBy κ (divisorOf (classOf binary64 y)) x .byte ≡ byteAt κ y x
   unfolding byteAt remainder remainderOf
-  byte-at = go (bad x) _ _ _ accepts-good
+  byte-at = go (bad x) _ _ _ _ accepts-good
     where
-      go : (b a : Bool) (m p : Place) → a ≡ not b → cond b m p .byte ≡ cond b (m .byte) (cond a (p .byte) 0)
-      go true a m p e = refl
-      go false a m p e = rw e
+      go : (b a : Bool) (m : Place) (v q : ℕ) → a ≡ not b → cond b m (record { value = v; byte = shown q }) .byte ≡ cond b (m .byte) (shown (cond a q 0))
+      go true a m v q e = refl
+      go false a m v q e = rw e

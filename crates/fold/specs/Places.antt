@@ -6,7 +6,7 @@ use mathlib.Core.List.{List, map}
 use Rattle.definitions.specs.Class.{finite}
 use Rattle.definitions.specs.Format.{classOf, patternOf, houseNan, binary64}
 use Rattle.definitions.specs.Division.{Divisor, finish, dividendOf}
-use Rattle.definitions.specs.Remainder.{quotientBits}
+use Rattle.definitions.specs.Remainder.{quotientBits, shown}
 use Rattle.definitions.specs.Fold.{Folded, bad, badPlaces}
 use Rattle.definitions.specs.declared.Kind.{Kind}
 use Rattle.fold.specs.declared.FoldAnswer.{FoldAnswer}
@@ -16,7 +16,7 @@ use Rattle.fold.specs.declared.Place.{Place}
 abbrev pub placeBy : Kind → Divisor → ℕ → Place
 placeBy κ d x =
     let r = finish κ d (dividendOf (classOf binary64 x)) in
-    cond (bad x) (record { value = houseNan binary64; byte = 255 }) (record { value = patternOf binary64 (finite (r .value)); byte = quotientBits (r .whole) })
+    cond (bad x) (record { value = houseNan binary64; byte = 255 }) (record { value = patternOf binary64 (finite (r .value)); byte = shown (quotientBits (r .whole)) })
 
 -- every place of both lists written, and the marked ones counted
 pub record Filled (κ : Kind) (d : Divisor) (xs results quotients : List ℕ) (marked : ℕ) : Type 0 where

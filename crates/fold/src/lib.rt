@@ -9,6 +9,7 @@ use definitions::Refusal;
 use formats::binary::Binary64;
 use operands::Divisor;
 use operands::divisor_of;
+use quotients::shown_bits;
 use remainder::divided::divide_by;
 ghost use mathlib.Core.Path.{_≡_};
 ghost use lib.ListN.{length};
@@ -30,7 +31,7 @@ struct Place {
     byte: u8,
 }
 
-// The byte of a place with no remainder: no quotient's three bits are it.
+// The byte of a place with no remainder: no quotient that is shown is it.
 const MARK: u8 = 255;
 
 fn fold_place(x: u64, y: Divisor, kind: Kind) -> Place
@@ -48,7 +49,7 @@ fn fold_place(x: u64, y: Divisor, kind: Kind) -> Place
     let value = divided.value;
     Place {
         value: value.low,
-        byte: divided.quotient as u8,
+        byte: shown_bits(divided.quotient),
     }
 }
 

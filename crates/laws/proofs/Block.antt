@@ -26,7 +26,7 @@ value-bytes v = ap (bytesOf 10) (sym (div-add-mod' v (2 ^ 64))) ∙ bytes-joined
 pub two-words : (v : ℕ) → words (wordIn v) (significandIn v) ≡ v
 two-words v = div-add-mod' v (2 ^ 64)
 
--- [9.4] each of the 16 places
+-- [9.4] each of the 20 places: in place 11 the quotient modulo 8, in the last four all that is told of it
 pub block-layout : (r : Report ℕ)
     → let s = significandIn (r .value) in
     let w = wordIn (r .value) in
@@ -34,11 +34,12 @@ pub block-layout : (r : Report ℕ)
     ≡ byte 0 s ∷ byte 1 s ∷ byte 2 s ∷ byte 3 s ∷ byte 4 s ∷ byte 5 s ∷ byte 6 s ∷ byte 7 s
     ∷ byte 0 w ∷ byte 1 w
     ∷ r .number
-    ∷ r .quotient
+    ∷ r .quotient % 8
     ∷ byte 0 (r .steps) ∷ byte 1 (r .steps) ∷ byte 2 (r .steps) ∷ byte 3 (r .steps)
+    ∷ byte 0 (r .quotient) ∷ byte 1 (r .quotient) ∷ byte 2 (r .quotient) ∷ byte 3 (r .quotient)
     ∷ []
 unfolding blockOf
-block-layout r = ap (λ (bs : List ℕ). bs ++ (r .number ∷ r .quotient ∷ bytesOf 4 (r .steps))) (value-bytes (r .value)) ∙ simp (div-div-eq-div-mul, div-one)
+block-layout r = ap (λ (bs : List ℕ). bs ++ (r .number ∷ r .quotient % 8 ∷ (bytesOf 4 (r .steps) ++ bytesOf 4 (r .quotient)))) (value-bytes (r .value)) ∙ simp (div-div-eq-div-mul, div-one)
 
 module _ (lent : List ℕ) (r : Report ℕ) where
   -- [9.6] a refusal leaves the block
@@ -51,11 +52,11 @@ module _ (lent : List ℕ) (r : Report ℕ) where
   unfolding blockAfter
   block-accepted e = rw e
 
-  -- [9.3] which has 16 bytes before and after
-  pub block-length : length lent ≡ 16 → length (blockAfter lent r) ≡ 16
+  -- [9.3] which has 20 bytes before and after
+  pub block-length : length lent ≡ 20 → length (blockAfter lent r) ≡ 20
   unfolding blockAfter blockOf
   block-length e = go (accepted (r .number))
     where
-      go : (t : Bool) → length (cond t (blockOf r) lent) ≡ 16
+      go : (t : Bool) → length (cond t (blockOf r) lent) ≡ 20
       go true = refl
       go false = e

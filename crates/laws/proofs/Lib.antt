@@ -19,6 +19,7 @@ pub mod Splitting
 pub mod Results
 pub mod Small
 pub mod Remainder
+pub mod Signed
 pub mod Refusals
 pub mod Bytes
 pub mod Block

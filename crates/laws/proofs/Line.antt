@@ -235,7 +235,7 @@ good-line x y hx hy =
     ∙ ap (λ (u : ℕ). answerLine (remainder binary64 Truncated u (hexValue 0 (hexDigits 16 y)))) (pattern-back x hx)
     ∙ ap (λ (v : ℕ). answerLine (remainder binary64 Truncated x v)) (pattern-back y hy)
 
--- [10.2] an answer: 16 digits, which are the value's (a remainder's is that small: `remainder-small`), then quotient bits and number
+-- [10.2] an answer: 16 digits, which are the value's (a remainder's is that small: `remainder-small`), then three bits of the quotient, and the number
 pub answer-back : (r : Remainder) → r .value < 2 ^ 64 → hexValue 0 (take 16 (answerLine r)) ≡ r .value
 unfolding answerLine
 answer-back r h = pattern-back (r .value) h
@@ -246,6 +246,6 @@ answer-upper r i h =
     let a = hexDigits 16 (r .value) in
     subst Upper (sym (List·getD-append a (drop 16 (answerLine r)) 0 i h)) (all-upper 16 (r .value) i h)
 
-pub answer-rest : (r : Remainder) → drop 16 (answerLine r) ≡ 32 ∷ (48 + r .quotient) ∷ 32 ∷ (48 + r .number) ∷ []
+pub answer-rest : (r : Remainder) → drop 16 (answerLine r) ≡ 32 ∷ (48 + r .quotient % 8) ∷ 32 ∷ (48 + r .number) ∷ []
 unfolding answerLine
 answer-rest r = refl

@@ -1,13 +1,11 @@
--- What a line shows in one digit each is below ten. Assumes nothing.
+-- The number that a line shows has one digit. Assumes nothing.
 use mathlib.Core.Bool.{Bool, true, false, cond, _||_}
-use Prim.Native.Nat.{ℕ, _%_, _≤_}
-use native.Mathlib.Omega.{arith}
+use Prim.Native.Nat.{ℕ, _≤_}
 use lib.Dec.{lit≤}
 use Rattle.definitions.specs.declared.Kind.{Kind}
 use Rattle.definitions.specs.Format.{Format, classOf}
-use Rattle.definitions.specs.Numbers.{first, accepted, dividing, isUnsupported, isNan, isInfinite, isZero}
-use Rattle.definitions.specs.Division.{finish, dividendOf, divisorOf}
-use Rattle.definitions.specs.Remainder.{remainderOf, remainder, quotientModulus}
+use Rattle.definitions.specs.Numbers.{first, isUnsupported, isNan, isInfinite, isZero}
+use Rattle.definitions.specs.Remainder.{remainderOf, remainder}
 
 number-shown : (two three four five : Bool) → cond two 2 (cond three 3 (cond four 4 (cond five 5 0))) ≤ 9
 number-shown true three four five = lit≤ tt
@@ -22,13 +20,3 @@ number-digit f κ x y =
     let a = classOf f x in
     let b = classOf f y in
     number-shown (isUnsupported a || isUnsupported b) (isNan a || isNan b) (isInfinite a) (isZero b)
-
-quotient-shown : (t : Bool) (q : ℕ) → cond t (q % quotientModulus) 0 ≤ 9
-quotient-shown true q = omega arith
-quotient-shown false q = lit≤ tt
-
-pub quotient-digit : (f : Format) (κ : Kind) (x y : ℕ) → remainder f κ x y .quotient ≤ 9
-unfolding remainder remainderOf
-quotient-digit f κ x y =
-    quotient-shown (accepted (first (dividing (classOf f x) (classOf f y))))
-    (finish κ (divisorOf (classOf f y)) (dividendOf (classOf f x)) .whole)

@@ -3,6 +3,7 @@ use checks::number_of;
 use definitions::RemainderAnswer;
 use formats::binary::Binary64;
 use hex::upper_hex;
+use quotients::shown_bits;
 ghost use mathlib.Core.Path.{_≡_};
 ghost use mathlib.Core.List.{[], _∷_, _++_};
 ghost use Prim.Native.Nat.{_≤_, _<_, _^_};
@@ -43,15 +44,14 @@ fn digits_line(value: u64, quotient_digit: u8, number_digit: u8) -> Output
     Output { bytes, len: 20 }
 }
 
-// The line of an answer. Only `answer_line` calls it, with an answer of `remainder64`: quotient bits and number have one
-// digit each.
+// The line of an answer. Only `answer_line` calls it, with an answer of `remainder64`: its number has one digit.
 pub fn line_of_answer(answer: RemainderAnswer) -> Output
-    requires { ⌜ (remainderMeaning binary64 answer .value < 2 ^ 64) × (remainderMeaning binary64 answer .quotient ≤ 9) × (remainderMeaning binary64 answer .number ≤ 9) ⌝ }
+    requires { ⌜ (remainderMeaning binary64 answer .value < 2 ^ 64) × (remainderMeaning binary64 answer .number ≤ 9) ⌝ }
     ensures { λ r. ⌜ r ≡ outputOf (answerLine (remainderMeaning binary64 answer)) ⌝ }
 {
     match answer {
         RemainderAnswer::Finished { value, quotient } => {
-            digits_line(value.low, b'0' + (quotient as u8), b'0')
+            digits_line(value.low, b'0' + shown_bits(quotient), b'0')
         }
         RemainderAnswer::Refused(why) => {
             digits_line(Binary64::HOUSE_NAN, b'0', b'0' + number_of(why))

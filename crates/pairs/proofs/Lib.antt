@@ -2,4 +2,3 @@ pub mod Link
 pub mod Settled
 pub mod Below
 pub mod TwoOperands
-pub mod Bits

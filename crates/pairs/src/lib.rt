@@ -12,7 +12,6 @@ ghost use lib.IntN.{ℤ, _-ℤ_};
 ghost use lib.Signed.{mag};
 ghost use Rattle.definitions.specs.Class.{Value};
 ghost use Rattle.definitions.specs.Division.{roundsUp, finishBy};
-ghost use Rattle.definitions.specs.Remainder.{quotientBits};
 ghost use Rattle.operands.specs.Operand.{Ready, Unpacks};
 ghost use Rattle.pairs.specs.Pair.{leftOf, settledOf, belowOf};
 
@@ -102,13 +101,4 @@ pub fn finish_pair(kind: Kind, x: Unpacked, y: Unpacked, d: i32) -> Left
     }
     let left = divide(x.significand, y.significand, d as u32);
     settle(kind, x.negative, left, y.significand, y.exponent)
-}
-
-// How many values of the quotient an answer tells apart.
-const QUOTIENT_MODULUS: u32 = 8;
-
-pub fn quotient_bits(quotient: u32) -> u32
-    ensures { λ r. ⌜ r ≡ quotientBits quotient ⌝ }
-{
-    quotient % QUOTIENT_MODULUS
 }

@@ -26,7 +26,7 @@ use Rattle.packing.proofs.Standing.{stands-value, value-of, value-class, unpack
 use Rattle.laws.proofs.Division.{finish-far, finish-held}
 use Rattle.pairs.specs.declared.Left.{Left}
 use Rattle.pairs.specs.Pair.{leftOf}
-use Rattle.pairs.proofs.Bits.{bits-low}
+use Rattle.quotients.proofs.Bits.{bits-low}
 
 -- a pattern and quotient bits that are those of an outcome
 abbrev pub Writes : Format → ℕ → ℕ → Outcome → Type 0

@@ -11,7 +11,7 @@ use operands::divisor_of;
 use packing::pack::pack;
 use pairs::finish_pair;
 use pairs::gap;
-use pairs::quotient_bits;
+use quotients::quotient_bits;
 use shapes::shape::Shape;
 ghost use mathlib.Core.Path.{_≡_};
 ghost use Rattle.definitions.specs.Class.{finite};

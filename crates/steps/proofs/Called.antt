@@ -26,7 +26,7 @@ use Rattle.operands.specs.Operand.{operandOf, classIn, valueOperand, divisorOpe
 use Rattle.packing.specs.Stands.{Stands, StandsValue, StandsDivisor}
 use Rattle.shapes.proofs.Sounds.{sound80}
 use Rattle.packing.proofs.Standing.{class-of, stands-finite, stands-pattern, class-pattern, divisor-stands, divisor-is}
-use Rattle.pairs.proofs.Bits.{bits-low}
+use Rattle.quotients.proofs.Bits.{bits-low}
 use Rattle.runs.specs.Ran.{ranOf}
 use Rattle.steps.specs.Called.{ranReport, callReport}
 use Rattle.runs.specs.declared.Ran.{Ran}

@@ -8,7 +8,7 @@ use formats::x87::X87;
 use operands::Operand;
 use operands::divisor_of;
 use packing::pack::pack;
-use pairs::quotient_bits;
+use quotients::quotient_bits;
 use runs::Ran;
 use runs::run_value;
 ghost use mathlib.Core.Path.{_≡_};

@@ -38,7 +38,7 @@ write-requires : tie.Need-write-requires
 write-requires c κs =
     let a = c .before .before .before .before .before .args in
     let h = subst Small (sym (told c)) (step-small (lending (a .block .now)) (kindOf (a .kind)) (a .size) (words (a .xw) (a .x)) (words (a .yw) (a .y))) in
-    (c .before .before .before .if1 .left, h .value, h .quotient, refl)
+    (c .before .before .before .if1 .left, h .value, refl)
 
 same-length : tie.Need-same-length
 same-length c = search needs

@@ -45,8 +45,8 @@ divide-by-requires c κs =
     let s = o .before in
     rw (c .shape .ensures) (sound64, dividend-stands (s .args .x) (o .of-pattern .result .operand) (o .of-pattern .ensures) (good e), s .pre)
 
-cast-t11 : tie.Need-cast-t11
-cast-t11 c = search needs
+shown-bits-requires : tie.Need-shown-bits-requires
+shown-bits-requires c κs = search needs
 
 returns-2 : tie.Need-returns-2
 returns-2 c =
@@ -55,9 +55,9 @@ returns-2 c =
     let e = h .before in
     let o = e .before .before .before .before in
     let s = o .before in
-    written (s .args .x) (o .of-pattern .result .operand) (o .of-pattern .ensures) (good e) (s .args .kind) (s .args .y) (r .divide-by .result .value) (r .divide-by .result .quotient) (s .pre)
+    written (s .args .x) (o .of-pattern .result .operand) (o .of-pattern .ensures) (good e) (s .args .kind) (s .args .y) (r .divide-by .result .value) (r .divide-by .result .quotient) _ (s .pre)
     (rw (h .shape .ensures) at (r .divide-by .ensures .0))
-    (rw (h .shape .ensures) at (r .divide-by .ensures .1))
+    (rw (h .shape .ensures) at (r .divide-by .ensures .1)) (c .shown-bits .ensures)
 
 pub fold-place-spec : {M : Type 1} → statement M
 fold-place-spec =
@@ -69,5 +69,5 @@ fold-place-spec =
     returns
     shape-requires
     divide-by-requires
-    cast-t11
+    shown-bits-requires
     returns-2)

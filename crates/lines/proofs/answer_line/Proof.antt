@@ -11,7 +11,7 @@ use Rattle.laws.proofs.Regular.{regular64}
 use Rattle.laws.proofs.Small.{remainder-small}
 use Rattle.hex.specs.Field.{fieldOf}
 use Rattle.lines.specs.Output.{outputOf}
-use Rattle.lines.proofs.OneDigit.{number-digit, quotient-digit}
+use Rattle.lines.proofs.OneDigit.{number-digit}
 use Rattle.lines.proofs.Parts.{rest-whole}
 use Rattle.lines.proofs.WellFormed.{bad-length, bad-space, first-length, bad-first, bad-second, answered}
 use borrow.Author.Needs.{needs}
@@ -94,7 +94,7 @@ remainder64-requires : tie.Need-remainder64-requires
 remainder64-requires c κs = search needs
 
 line-of-answer-requires : tie.Need-line-of-answer-requires
-line-of-answer-requires c κs = rw (c .remainder64 .ensures) (remainder-small binary64 regular64 Truncated _ _, quotient-digit binary64 Truncated _ _, number-digit binary64 Truncated _ _)
+line-of-answer-requires c κs = rw (c .remainder64 .ensures) (remainder-small binary64 regular64 Truncated _ _, number-digit binary64 Truncated _ _)
 
 returns-5 : tie.Need-returns-5
 returns-5 c =

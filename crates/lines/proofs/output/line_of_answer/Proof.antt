@@ -7,30 +7,25 @@ use Rattle.definitions.specs.Format.{binary64}
 use Rattle.definitions.specs.Answers.{remainderMeaning, joined}
 use Rattle.definitions.specs.Line.{answerLine}
 use Rattle.definitions.specs.declared.RemainderAnswer.{RemainderAnswer}
+use Rattle.laws.proofs.Fold.{quotient-shown}
 use Rattle.lines.proofs.output.line_of_answer.Statement.{statement}
 use Rattle.lines.proofs.output.line_of_answer.Tie as tie
 
 enum-known-answer : tie.Need-enum-known-answer
 enum-known-answer c = search needs
 
--- what is shown of the answer: quotient bits in one digit, and a value of one word
-one-digit : (c : tie.After-known-told) → c .before .answer .given .0 .1 .0 ≤ 9
-unfolding remainderMeaning
-one-digit c =
-    let s = c .before .before .before in
-    subst (λ (a : RemainderAnswer). remainderMeaning binary64 a .quotient ≤ 9) (c .before .answer .given .1) (s .pre .1)
-
+-- the answer's value is one word
 one-word : (c : tie.After-known-told) → joined (c .before .answer .given .0 .0) < 2 ^ 64
 unfolding remainderMeaning
 one-word c =
     let s = c .before .before .before in
     subst (λ (a : RemainderAnswer). remainderMeaning binary64 a .value < 2 ^ 64) (c .before .answer .given .1) (s .pre .0)
 
-cast-digits-line : tie.Need-cast-digits-line
-cast-digits-line c = let q = one-digit c in omega arith
+shown-bits-requires : tie.Need-shown-bits-requires
+shown-bits-requires c κs = search needs
 
 add-digits-line : tie.Need-add-digits-line
-add-digits-line c = let q = one-digit c in omega arith
+add-digits-line c = rw (c .shown-bits .ensures) (omega (arith, quotient-shown _))
 
 digits-line-requires : tie.Need-digits-line-requires
 digits-line-requires c κs = search needs
@@ -45,7 +40,7 @@ add-digits-line-2 : tie.Need-add-digits-line-2
 unfolding remainderMeaning
 add-digits-line-2 c =
     let s = c .before .before .before .before in
-    let n = subst (λ (a : RemainderAnswer). remainderMeaning binary64 a .number ≤ 9) (c .before .before .answer2 .given .1) (s .pre .2) in
+    let n = subst (λ (a : RemainderAnswer). remainderMeaning binary64 a .number ≤ 9) (c .before .before .answer2 .given .1) (s .pre .1) in
     rw (c .number-of .ensures) (omega (arith, n))
 
 digits-line-requires-2 : tie.Need-digits-line-requires-2
@@ -67,7 +62,7 @@ line-of-answer-spec =
     tie.close
     (tie.spec
     enum-known-answer
-    cast-digits-line
+    shown-bits-requires
     add-digits-line
     digits-line-requires
     enum-known-answer-2
