@@ -27,15 +27,16 @@ module _ (f : Format) (r : Regular f) (κ : Kind) (x y : ℕ) (a : SignedAnswer)
     pub value-fits : joined v < patterns f
     value-fits = rw (ap (λ (g : SignedRemainder). g .value) (sym meant) ∙ signed-remainder f κ x y .1) (remainder-small f r κ x y)
 
-    -- the low word is the whole pattern
-    pub finished : patterns f ≤ 2 ^ 64 → (0 ≡ signedRemainder f κ x y .number) × ((v .low ≡ signedRemainder f κ x y .value) × (q ≡ signedRemainder f κ x y .quotient))
-    finished h = let s = value-fits in rw meant (refl, (omega arith, refl))
+    -- the low word is the whole pattern; z is what the machine holds of the quotient
+    pub finished : (z : ℤ) → z ≡ q → patterns f ≤ 2 ^ 64
+        → (0 ≡ signedRemainder f κ x y .number) × ((v .low ≡ signedRemainder f κ x y .value) × (z ≡ signedRemainder f κ x y .quotient))
+    finished z held h = let s = value-fits in rw meant (refl, (omega arith, held))
 
     -- the low word is the significand, and the high word is the other one
-    pub finished80 : v .low < 2 ^ 64
+    pub finished80 : (z : ℤ) → z ≡ q → v .low < 2 ^ 64
         → (0 ≡ signedRemainder f κ x y .number)
-        × ((v .low ≡ significandIn (signedRemainder f κ x y .value)) × ((v .high ≡ wordIn (signedRemainder f κ x y .value)) × (q ≡ signedRemainder f κ x y .quotient)))
-    finished80 h = rw meant (refl, (significand-of v h, (word-of v h, refl)))
+        × ((v .low ≡ significandIn (signedRemainder f κ x y .value)) × ((v .high ≡ wordIn (signedRemainder f κ x y .value)) × (z ≡ signedRemainder f κ x y .quotient)))
+    finished80 z held h = rw meant (refl, (significand-of v h, (word-of v h, held)))
 
   module _ (w : Refusal) (n : ℕ) (e : a ≡ Refused w) (is : n ≡ refusalNumber w) where
     number-is : n ≡ signedRemainder f κ x y .number

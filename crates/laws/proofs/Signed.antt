@@ -85,18 +85,20 @@ pub remquo-of-c : (f : Format) (x y : ℕ) (v w : Value) → classOf f x ≡ fin
     × Remquo v w r (signedRemainder f Nearest x y .quotient)
 unfolding finish
 remquo-of-c f x y v w ex ey p =
-    rw (signed-is f Nearest x y v w ex ey p)
-    (refl, refl,
-    record {
-      exact = signed t (o .whole);
-      rest = rule Nearest (w .count) (w .negative) v p;
-      nearest = rw (magnitude t (o .whole)) (nearest-half (w .count) v p);
-      zero-signed = zero-sign Nearest (w .count) v p;
-      three-bits = rw (magnitude t (quotientBits (o .whole)), magnitude t (o .whole)) (shown-bits (o .whole));
-      all-bits = rw (magnitude t (quotientBits (o .whole)), magnitude t (o .whole)) refl;
-      minus = below t (quotientBits (o .whole));
-      plus = above t (quotientBits (o .whole));
-    })
+    rw (signed-is f Nearest x y v w ex ey p) (
+      refl,
+      refl,
+      record {
+        exact = signed t (o .whole);
+        rest = rule Nearest (w .count) (w .negative) v p;
+        nearest = rw (magnitude t (o .whole)) (nearest-half (w .count) v p);
+        zero-signed = zero-sign Nearest (w .count) v p;
+        three-bits = rw (magnitude t (quotientBits (o .whole)), magnitude t (o .whole)) (shown-bits (o .whole));
+        all-bits = rw (magnitude t (quotientBits (o .whole)), magnitude t (o .whole)) refl;
+        minus = below t (quotientBits (o .whole));
+        plus = above t (quotientBits (o .whole));
+      },
+    )
   where
     t : Bool
     t = combined (v .negative) (w .negative)

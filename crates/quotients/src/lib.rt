@@ -27,9 +27,5 @@ pub fn with_sign(negative: bool, quotient: u32) -> i32
     ensures { λ r. ⌜ r ≡ signed negative quotient ⌝ }
 {
     let magnitude = quotient as i32;
-    if negative {
-        -magnitude
-    } else {
-        magnitude
-    }
+    if negative { -magnitude } else { magnitude }
 }

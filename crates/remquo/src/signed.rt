@@ -19,10 +19,11 @@ fn is_negative(x: Operand) -> bool
     ensures { λ r. ⌜ ((s : ℤ) → r ≡ negativeClass (classIn s x)) ⌝ }
 {
     match x {
+        Operand::Unsupported => false,
+        Operand::Nan => false,
         Operand::Infinite(negative) => negative,
         Operand::Zero(negative) => negative,
         Operand::Finite(value) => value.negative,
-        _ => false,
     }
 }
 

@@ -10,12 +10,6 @@ use Rattle.block.proofs.write.Tie as tie
 enum-known-answer : tie.Need-enum-known-answer
 enum-known-answer c = search needs
 
-cast-fill-block : tie.Need-cast-fill-block
-unfolding stepsMeaning
-cast-fill-block c =
-    let s = c .before .before .before .before .before in
-    record { fits = rw (c .before .before .answer .given .1) at (s .pre .2) }
-
 fill-block-requires : tie.Need-fill-block-requires
 unfolding stepsMeaning
 fill-block-requires c κs =
@@ -24,12 +18,6 @@ fill-block-requires c κs =
 
 enum-known-answer-2 : tie.Need-enum-known-answer-2
 enum-known-answer-2 c = search needs
-
-cast-fill-block-2 : tie.Need-cast-fill-block-2
-unfolding stepsMeaning
-cast-fill-block-2 c =
-    let s = c .before .before .before .before .before in
-    record { fits = rw (c .before .before .answer2 .given .1) at (s .pre .2) }
 
 fill-block-requires-2 : tie.Need-fill-block-requires-2
 unfolding stepsMeaning
@@ -59,7 +47,7 @@ returns-2 : tie.Need-returns-2
 unfolding stepsMeaning
 returns-2 c =
     let v = c .before .before .before .before .before in
-    filled _ _ _ (v .answer2 .given .1) _ _ (v .before .before .before .pre .3) (c .before .before .fill-block2 .ensures)
+    filled _ _ _ (v .answer2 .given .1) _ _ (v .before .before .before .pre .2) (c .before .before .fill-block2 .ensures)
 
 returns-3 : tie.Need-returns-3
 unfolding stepsMeaning
@@ -72,10 +60,8 @@ write-spec =
     tie.close
     (tie.spec
     enum-known-answer
-    cast-fill-block
     fill-block-requires
     enum-known-answer-2
-    cast-fill-block-2
     fill-block-requires-2
     enum-known-answer-3
     number-of-requires

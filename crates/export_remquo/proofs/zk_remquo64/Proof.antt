@@ -1,6 +1,8 @@
 -- `zk_remquo64` meets its contract: what it writes is what `remquo64` tells. Assumes nothing.
 use mathlib.Core.Path.{_≡_}
 use lib.Dec.{lit≤}
+use mir.Syntax.{w32}
+use mir.ValLaws.{toZ-ofZ}
 use Rattle.definitions.specs.Format.{binary64}
 use Rattle.definitions.specs.Signed.{signedRemainder}
 use Rattle.definitions.specs.Answers.{signedMeaning}
@@ -31,7 +33,7 @@ number-of-requires : tie.Need-number-of-requires
 number-of-requires c κs = search needs
 
 returns : tie.Need-returns
-returns c = finished binary64 regular64 _ _ _ _ (told (c .before .before .before)) _ _ (c .before .v .given .1) (lit≤ tt)
+returns c = finished binary64 regular64 _ _ _ _ (told (c .before .before .before)) _ _ (c .before .v .given .1) _ (toZ-ofZ w32 _ (search needs)) (lit≤ tt)
 
 returns-2 : tie.Need-returns-2
 returns-2 c =

@@ -1,6 +1,8 @@
 -- `zk_remquo80` meets its contract: what it writes is what `remquo80` tells. Assumes nothing.
 use mathlib.Core.Path.{_≡_}
 use native.Mathlib.Omega.{arith}
+use mir.Syntax.{w32}
+use mir.ValLaws.{toZ-ofZ}
 use Rattle.definitions.specs.Format.{x87, words}
 use Rattle.definitions.specs.Signed.{signedRemainder}
 use Rattle.definitions.specs.Answers.{signedMeaning}
@@ -34,7 +36,7 @@ number-of-requires : tie.Need-number-of-requires
 number-of-requires c κs = search needs
 
 returns : tie.Need-returns
-returns c = finished80 x87 regular80 _ _ _ _ (told (c .before .before .before .before)) _ _ (c .before .before .v .given .1) (omega arith)
+returns c = finished80 x87 regular80 _ _ _ _ (told (c .before .before .before .before)) _ _ (c .before .before .v .given .1) _ (toZ-ofZ w32 _ (search needs)) (omega arith)
 
 returns-2 : tie.Need-returns-2
 returns-2 c =

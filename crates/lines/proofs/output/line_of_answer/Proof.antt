@@ -7,7 +7,6 @@ use Rattle.definitions.specs.Format.{binary64}
 use Rattle.definitions.specs.Answers.{remainderMeaning, joined}
 use Rattle.definitions.specs.Line.{answerLine}
 use Rattle.definitions.specs.declared.RemainderAnswer.{RemainderAnswer}
-use Rattle.laws.proofs.Fold.{quotient-shown}
 use Rattle.lines.proofs.output.line_of_answer.Statement.{statement}
 use Rattle.lines.proofs.output.line_of_answer.Tie as tie
 
@@ -25,7 +24,7 @@ shown-bits-requires : tie.Need-shown-bits-requires
 shown-bits-requires c κs = search needs
 
 add-digits-line : tie.Need-add-digits-line
-add-digits-line c = rw (c .shown-bits .ensures) (omega (arith, quotient-shown _))
+add-digits-line c = omega (arith, c .shown-bits .ensures)
 
 digits-line-requires : tie.Need-digits-line-requires
 digits-line-requires c κs = search needs
@@ -49,9 +48,11 @@ digits-line-requires-2 c κs = search needs
 returns : tie.Need-returns
 unfolding remainderMeaning answerLine
 returns c =
-    let w = one-word (c .before) in
-    let low : c .before .before .answer .given .0 .0 .low ≡ joined (c .before .before .answer .given .0 .0) = omega arith in
-    rw (c .before .before .answer .given .1, ← low) (c .digits-line .ensures)
+    let t = c .before .before in
+    let w = one-word t in
+    let v = t .before .answer .given in
+    let low : v .0 .0 .low ≡ joined (v .0 .0) = omega arith in
+    rw (v .1, ← low, ← c .before .shown-bits .ensures) (c .digits-line .ensures)
 
 returns-2 : tie.Need-returns-2
 unfolding remainderMeaning answerLine

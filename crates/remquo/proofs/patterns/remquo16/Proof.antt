@@ -2,7 +2,7 @@
 use Rattle.definitions.specs.Format.{binary16}
 use Rattle.shapes.proofs.Sounds.{sound16}
 use Rattle.remainder.proofs.OfPatterns.{patterns-stand}
-use Rattle.remquo.proofs.Signed.{patterns-signed}
+use Rattle.remquo.proofs.OfOperands.{patterns-signed}
 use borrow.Author.Needs.{needs}
 use Rattle.remquo.proofs.patterns.remquo16.Statement.{statement}
 use Rattle.remquo.proofs.patterns.remquo16.Tie as tie

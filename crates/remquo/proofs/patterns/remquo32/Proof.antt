@@ -2,7 +2,7 @@
 use Rattle.definitions.specs.Format.{binary32}
 use Rattle.shapes.proofs.Sounds.{sound32}
 use Rattle.remainder.proofs.OfPatterns.{patterns-stand}
-use Rattle.remquo.proofs.Signed.{patterns-signed}
+use Rattle.remquo.proofs.OfOperands.{patterns-signed}
 use borrow.Author.Needs.{needs}
 use Rattle.remquo.proofs.patterns.remquo32.Statement.{statement}
 use Rattle.remquo.proofs.patterns.remquo32.Tie as tie
