@@ -43,7 +43,7 @@ same-length c =
 returns : tie.Need-returns
 returns c =
     let t = c .before .before .before .before .before .before in
-    let p = t .before .before .before .before .before in
+    let p = c .before .before .before .before .before .before .before .before .before .before .before in
     let q = p .before .before .before .before .before in
     let start = q .before .before .before in
     let a = start .args in
