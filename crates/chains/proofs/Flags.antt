@@ -13,7 +13,7 @@ use Rattle.definitions.specs.Steps.{step, flagsOf}
 use Rattle.definitions.specs.Numbers.{first, accepted}
 use Rattle.definitions.specs.Reports.{Lent, stepReport}
 use Rattle.digits.proofs.Tests.{clash}
-use Rattle.laws.proofs.Remainder.{shown-bits}
+use Rattle.laws.proofs.Remainder.{three-bits}
 use Rattle.chains.proofs.Spent.{Judgement, refused, passed, result}
 
 bit : (b : ℕ) → b < 2 → cond (eqb b 1) 1 0 ≡ b
@@ -43,7 +43,7 @@ pub finished-flags : (l : Lent) (κ : Kind) (n x y : ℕ) → stepReport l κ n 
 unfolding stepReport
 finished-flags l κ n x y e =
     let r = step κ n (divisorOf (classOf x87 y)) (dividendOf (classOf x87 x)) in
-    rw e (flags-are-bits r ∙ sym (shown-bits (r .whole)))
+    rw e (flags-are-bits r ∙ sym (three-bits (r .whole)))
 
 partial-number : {i z : Bool} {number : ℕ → ℕ} (d : Bool) → Judgement i z number → accepted (number (cond (not d) 1 0)) ≡ true
     → not d ≡ eqb (number (cond (not d) 1 0)) 1

@@ -8,7 +8,7 @@ use Rattle.definitions.specs.Class.{gap}
 use Rattle.definitions.specs.Format.{classOf, patternOf, magnitude, ordinary, houseNan, binary16, binary32, binary64, x87}
 use Rattle.definitions.specs.Numbers.{first}
 use Rattle.definitions.specs.Division.{finish}
-use Rattle.definitions.specs.Remainder.{shown}
+use Rattle.definitions.specs.Remainder.{quotientModulus, shownModulus, shown}
 use Rattle.definitions.specs.Steps.{step, run}
 use Rattle.definitions.specs.Table.{computed, readings, longReadings, allComputed, allExpected}
 use Rattle.definitions.specs.Samples.{refusals, answered, pseudoDenormals, longQuotients, signedQuotients}
@@ -66,6 +66,10 @@ pub ordinary-patterns : (map (ordinary x87)
     × (map (ordinary binary16) (0x0000 ∷ 0x03FF ∷ 0x0400 ∷ 0x8000 ∷ 0x83FF ∷ 0x7E00 ∷ []) ≡ true ∷ true ∷ true ∷ true ∷ true ∷ true ∷ [])
 unfolding ordinary
 ordinary-patterns = (refl, refl)
+
+-- [3.6] the moduli
+pub moduli : (quotientModulus ≡ 2147483648) × (shownModulus ≡ 8)
+moduli = (refl, refl)
 
 -- [2.9] the house NaNs
 pub house-nans : (houseNan binary16 ≡ 0x7E00) × (houseNan binary32 ≡ 0x7FC00000) × (houseNan binary64 ≡ 0x7FF8000000000000) × (houseNan x87 ≡ 0x7FFFC000000000000000)

@@ -10,7 +10,7 @@ use Rattle.definitions.specs.Class.{Class, unsupported, nan, infinite, finite}
 use Rattle.definitions.specs.Format.{binary64, classOf}
 use Rattle.definitions.specs.Numbers.{first, accepted, dividing, isUnsupported, isNan, isInfinite}
 use Rattle.definitions.specs.Division.{Divisor, dividendOf, divisorOf}
-use Rattle.definitions.specs.Remainder.{remainderOf, remainder, shown}
+use Rattle.definitions.specs.Remainder.{remainderOf, remainder, shown, shownModulus}
 use Rattle.definitions.specs.Fold.{dividingList, bad, resultAt, byteAt}
 use Rattle.definitions.specs.declared.Kind.{Kind}
 use Rattle.definitions.proofs.Refusals.{supported}
@@ -33,7 +33,7 @@ good-finite x = finite-class (classOf binary64 x) (supported binary64 refl x)
 pub marked : (κ : Kind) (d : Divisor) (x : ℕ) → eqb (placeBy κ d x .byte) 255 ≡ bad x
 marked κ d x = go (bad x) _ _ refl (quotient-shown _)
   where
-    go : (b : Bool) (m p : Place) → m .byte ≡ 255 → p .byte < 8 → eqb (cond b m p .byte) 255 ≡ b
+    go : (b : Bool) (m p : Place) → m .byte ≡ 255 → p .byte < shownModulus → eqb (cond b m p .byte) 255 ≡ b
     go true m p e h = rw e
     go false m p e h = ne-eqb (p .byte) 255 (λ e. omega arith)
 

@@ -9,6 +9,7 @@ use lib.ListN.{length}
 use Rattle.definitions.specs.Format.{words}
 use Rattle.definitions.specs.Numbers.{accepted}
 use Rattle.definitions.specs.Bytes.{bytesOf}
+use Rattle.definitions.specs.Remainder.{shown}
 use Rattle.definitions.specs.Reports.{Report}
 use Rattle.definitions.specs.Exports.{significandIn, wordIn}
 use Rattle.definitions.specs.Block.{blockOf, blockAfter}
@@ -26,7 +27,7 @@ value-bytes v = ap (bytesOf 10) (sym (div-add-mod' v (2 ^ 64))) ∙ bytes-joined
 pub two-words : (v : ℕ) → words (wordIn v) (significandIn v) ≡ v
 two-words v = div-add-mod' v (2 ^ 64)
 
--- [9.4] each of the 20 places: in place 11 the quotient modulo 8, in the last four all that is told of it
+-- [9.4] each of the 20 places: in place 11 what is shown of the quotient, in the last four all that is told of it
 pub block-layout : (r : Report ℕ)
     → let s = significandIn (r .value) in
     let w = wordIn (r .value) in
@@ -34,12 +35,12 @@ pub block-layout : (r : Report ℕ)
     ≡ byte 0 s ∷ byte 1 s ∷ byte 2 s ∷ byte 3 s ∷ byte 4 s ∷ byte 5 s ∷ byte 6 s ∷ byte 7 s
     ∷ byte 0 w ∷ byte 1 w
     ∷ r .number
-    ∷ r .quotient % 8
+    ∷ shown (r .quotient)
     ∷ byte 0 (r .steps) ∷ byte 1 (r .steps) ∷ byte 2 (r .steps) ∷ byte 3 (r .steps)
     ∷ byte 0 (r .quotient) ∷ byte 1 (r .quotient) ∷ byte 2 (r .quotient) ∷ byte 3 (r .quotient)
     ∷ []
 unfolding blockOf
-block-layout r = ap (λ (bs : List ℕ). bs ++ (r .number ∷ r .quotient % 8 ∷ (bytesOf 4 (r .steps) ++ bytesOf 4 (r .quotient)))) (value-bytes (r .value)) ∙ simp (div-div-eq-div-mul, div-one)
+block-layout r = ap (λ (bs : List ℕ). bs ++ (r .number ∷ shown (r .quotient) ∷ (bytesOf 4 (r .steps) ++ bytesOf 4 (r .quotient)))) (value-bytes (r .value)) ∙ simp (div-div-eq-div-mul, div-one)
 
 module _ (lent : List ℕ) (r : Report ℕ) where
   -- [9.6] a refusal leaves the block

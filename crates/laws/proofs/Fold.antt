@@ -2,7 +2,7 @@
 use mathlib.Core.Path.{_≡_, refl, sym, _∙_}
 use mathlib.Core.Bool.{Bool, true, false, cond, _&&_}
 use mathlib.Core.List.{List, [], _∷_, map}
-use Prim.Native.Nat.{ℕ, _+_, _%_, _<_}
+use Prim.Native.Nat.{ℕ, _+_, _<_}
 use native.Mathlib.Nat.{mod-lt}
 use native.Mathlib.Omega.{arith}
 use borrow.Author.Tests.{eq-eqb, ne-eqb}
@@ -12,14 +12,14 @@ use Rattle.digits.proofs.Tests.{clash}
 use Rattle.definitions.specs.Class.{Value, Class, unsupported, nan, infinite, finite}
 use Rattle.definitions.specs.Format.{binary64, classOf}
 use Rattle.definitions.specs.Numbers.{first, isUnsupported, isNan, isZero}
-use Rattle.definitions.specs.Remainder.{remainder, remainderOf, shown}
+use Rattle.definitions.specs.Remainder.{remainder, remainderOf, shown, shownModulus}
 use Rattle.definitions.specs.Fold.{Folded, bad, badPlaces, byteAt, dividingList, foldList, resultAt}
 use Rattle.definitions.specs.declared.Kind.{Kind}
 use Rattle.definitions.proofs.Refusals.{folding-numbers, supported}
 
--- [8.3, 8.4] what the place of the dividend x holds: its remainder and three bits of the quotient, or the marks of a NaN or of an infinity
+-- [8.3, 8.4] what the place of the dividend x holds: its remainder and what is shown of the quotient, or the marks of a NaN or of an infinity
 pub data Place (κ : Kind) (y x result byte : ℕ) : Type 0 where
-  folded : (v : Value) (q : ℕ) → classOf binary64 x ≡ finite v → remainder binary64 κ x y ≡ record { number = 0; value = result; quotient = q } → byte ≡ q % 8
+  folded : (v : Value) (q : ℕ) → classOf binary64 x ≡ finite v → remainder binary64 κ x y ≡ record { number = 0; value = result; quotient = q } → byte ≡ shown q
       → Place κ y x result byte
   nanMarked : classOf binary64 x ≡ nan → result ≡ 0x7FF8000000000000 → byte ≡ 255 → Place κ y x result byte
   infinityMarked : (s : Bool) → classOf binary64 x ≡ infinite s → result ≡ 0x7FF8000000000000 → byte ≡ 255 → Place κ y x result byte
@@ -50,7 +50,7 @@ passed equal y = go equal (isNan y) (isZero y)
     go true false false e = (refl, refl)
 
 -- no quotient that is shown is the mark
-pub quotient-shown : (q : ℕ) → shown q < 8
+pub quotient-shown : (q : ℕ) → shown q < shownModulus
 quotient-shown q = mod-lt q (lit< tt)
 
 -- ---- one place
@@ -66,12 +66,12 @@ module _ (κ : Kind) (y x : ℕ) where
       go (infinite s) e u = infinityMarked s e (rw (e, supported binary64 refl y, d .0)) (rw e)
       go (finite v) e u = folded v (remainder binary64 κ x y .quotient) e (rw (e, supported binary64 refl y, d .0, d .1)) (rw e)
 
-  -- the mark stands at the bad dividends alone: no three bits are it
+  -- the mark stands at the bad dividends alone
   marked-bad : eqb (byteAt κ y x) 255 ≡ bad x
   unfolding byteAt
   marked-bad = go (bad x) _ (quotient-shown _)
     where
-      go : (b : Bool) (q : ℕ) → q < 8 → eqb (cond b 255 q) 255 ≡ b
+      go : (b : Bool) (q : ℕ) → q < shownModulus → eqb (cond b 255 q) 255 ≡ b
       go true q h = refl
       go false q h = ne-eqb q 255 (λ e. omega arith)
 

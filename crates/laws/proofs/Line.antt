@@ -15,7 +15,7 @@ use lib.Seq.{split-at, take-at, drop-at, getD-at, drop-drop}
 use Rattle.digits.proofs.Tests.{clash, and-both}
 use Rattle.definitions.specs.declared.Kind.the-variants.{Truncated}
 use Rattle.definitions.specs.Format.{binary64}
-use Rattle.definitions.specs.Remainder.{Remainder, remainder}
+use Rattle.definitions.specs.Remainder.{Remainder, remainder, shown}
 use Rattle.definitions.specs.Line.{isHex, digitOf, allHex, hexValue, wellFormed, upperHex, hexDigits, answerLine, badLine, lineFor}
 use Rattle.definitions.specs.Line.{newline, written, begun, lastWritten, outputFor}
 
@@ -235,7 +235,7 @@ good-line x y hx hy =
     ∙ ap (λ (u : ℕ). answerLine (remainder binary64 Truncated u (hexValue 0 (hexDigits 16 y)))) (pattern-back x hx)
     ∙ ap (λ (v : ℕ). answerLine (remainder binary64 Truncated x v)) (pattern-back y hy)
 
--- [10.2] an answer: 16 digits, which are the value's (a remainder's is that small: `remainder-small`), then three bits of the quotient, and the number
+-- [10.2] an answer: 16 digits, which are the value's (a remainder's is that small: `remainder-small`), then what is shown of the quotient, and the number
 pub answer-back : (r : Remainder) → r .value < 2 ^ 64 → hexValue 0 (take 16 (answerLine r)) ≡ r .value
 unfolding answerLine
 answer-back r h = pattern-back (r .value) h
@@ -246,6 +246,6 @@ answer-upper r i h =
     let a = hexDigits 16 (r .value) in
     subst Upper (sym (List·getD-append a (drop 16 (answerLine r)) 0 i h)) (all-upper 16 (r .value) i h)
 
-pub answer-rest : (r : Remainder) → drop 16 (answerLine r) ≡ 32 ∷ (48 + r .quotient % 8) ∷ 32 ∷ (48 + r .number) ∷ []
+pub answer-rest : (r : Remainder) → drop 16 (answerLine r) ≡ 32 ∷ (48 + shown (r .quotient)) ∷ 32 ∷ (48 + r .number) ∷ []
 unfolding answerLine
 answer-rest r = refl

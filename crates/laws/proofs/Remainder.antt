@@ -1,7 +1,7 @@
 -- The remainder of two patterns, by what they stand for: of every format. Assumes nothing.
 use mathlib.Core.Path.{_≡_}
 use mathlib.Core.Bool.{Bool, true, false, cond}
-use Prim.Native.Nat.{ℕ, _%_, _^_, _<_}
+use Prim.Native.Nat.{ℕ, _%_, _<_}
 use native.Mathlib.Nat.{mod-lt}
 use lib.Dec.{lit<}
 use lib.Pow.{mod-mod-pow}
@@ -11,7 +11,7 @@ use Rattle.definitions.specs.Format.{Format, classOf, patternOf, ordinaryOf}
 use Rattle.definitions.specs.Numbers.{first, accepted, dividing}
 use Rattle.definitions.specs.declared.Kind.{Kind}
 use Rattle.definitions.specs.Division.{by, finish, dividendOf, divisorOf}
-use Rattle.definitions.specs.Remainder.{quotientBits, shown, remainderOf, remainder}
+use Rattle.definitions.specs.Remainder.{quotientModulus, quotientBits, shown, remainderOf, remainder}
 
 -- [3.1, 3.2, 3.6] of two finite operands, the divisor not zero
 pub remainder-is : (f : Format) (κ : Kind) (x y : ℕ) (v w : Value) → classOf f x ≡ finite v → classOf f y ≡ finite w → 0 < w .count
@@ -26,18 +26,21 @@ pub remainder-infinite : (f : Format) (κ : Kind) (x y : ℕ) (v : Value) (s : B
 unfolding remainder remainderOf first finish
 remainder-infinite f κ x y v s ex ey = rw (ex, ey)
 
--- [3.6] what is told of a quotient is below 2^31, and what is shown of that is the quotient modulo 8
-pub bits-told : (f : Format) (κ : Kind) (x y : Class) → remainderOf f κ x y .quotient < 2 ^ 31
+-- [3.6] what is told of a quotient is below the modulus, and has its three low bits; what is shown of it is what is shown of the quotient
+pub bits-told : (f : Format) (κ : Kind) (x y : Class) → remainderOf f κ x y .quotient < quotientModulus
 unfolding remainderOf
 bits-told f κ x y = go (accepted (first (dividing x y))) (finish κ (divisorOf y) (dividendOf x) .whole)
   where
-    go : (t : Bool) (q : ℕ) → cond t (quotientBits q) 0 < 2 ^ 31
+    go : (t : Bool) (q : ℕ) → cond t (quotientBits q) 0 < quotientModulus
     go true q = mod-lt q (lit< tt)
     go false q = lit< tt
 
-pub quotient-told : (f : Format) (κ : Kind) (x y : ℕ) → remainder f κ x y .quotient < 2 ^ 31
+pub quotient-told : (f : Format) (κ : Kind) (x y : ℕ) → remainder f κ x y .quotient < quotientModulus
 unfolding remainder
 quotient-told f κ x y = bits-told f κ (classOf f x) (classOf f y)
 
-pub shown-bits : (q : ℕ) → shown (quotientBits q) ≡ q % 8
-shown-bits q = mod-mod-pow q 28 3
+pub three-bits : (q : ℕ) → quotientBits q % 8 ≡ q % 8
+three-bits q = mod-mod-pow q 28 3
+
+pub shown-bits : (q : ℕ) → shown (quotientBits q) ≡ shown q
+shown-bits q = three-bits q

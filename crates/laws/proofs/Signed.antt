@@ -2,7 +2,7 @@
 -- nothing.
 use mathlib.Core.Path.{_≡_, refl, sym, ap, _∙_}
 use mathlib.Core.Bool.{Bool, true, false}
-use Prim.Native.Nat.{ℕ, zero, suc, _%_, _^_, _<_}
+use Prim.Native.Nat.{ℕ, zero, suc, _%_, _<_}
 use native.Mathlib.Omega.{arith}
 use borrow.Author.Tests.{ltb-true}
 use lib.IntN.{ℤ, pos, natAbs, _+ℤ_, _*ℤ_}
@@ -14,10 +14,10 @@ use Rattle.definitions.specs.Numbers.{first}
 use Rattle.definitions.specs.declared.Kind.{Kind}
 use Rattle.definitions.specs.declared.Kind.the-variants.{Nearest}
 use Rattle.definitions.specs.Division.{Outcome, by, finish, finishBy}
-use Rattle.definitions.specs.Remainder.{quotientBits, remainderOf, remainder}
+use Rattle.definitions.specs.Remainder.{quotientModulus, quotientBits, remainderOf, remainder}
 use Rattle.definitions.specs.Signed.{negativeClass, signedOf, signedRemainder}
 use Rattle.laws.proofs.Division.{Half, rule, nearest-half, zero-sign}
-use Rattle.laws.proofs.Remainder.{quotient-told, shown-bits}
+use Rattle.laws.proofs.Remainder.{quotient-told, three-bits}
 
 magnitude : (s : Bool) (n : ℕ) → natAbs (signed s n) ≡ n
 magnitude true zero = refl
@@ -42,8 +42,8 @@ module _ (f : Format) (κ : Kind) (x y : ℕ) where
   unfolding remainder signedRemainder signedOf
   signed-remainder = (refl, refl, magnitude (combined (negativeClass (classOf f x)) (negativeClass (classOf f y))) (remainder f κ x y .quotient))
 
-  -- [3.8] from -(2^31 - 1) to 2^31 - 1
-  pub signed-range : natAbs (signedRemainder f κ x y .quotient) < 2 ^ 31
+  -- [3.8] it is from -(2^31 - 1) to 2^31 - 1
+  pub signed-range : natAbs (signedRemainder f κ x y .quotient) < quotientModulus
   signed-range = rw (signed-remainder .2) (quotient-told f κ x y)
 
   -- [3.7, 3.8] by an infinite divisor it is 0
@@ -73,7 +73,7 @@ pub record Remquo (v w r : Value) (q : ℤ) : Type 0 where
   pub nearest : Half (w .count) (r .count) (natAbs exact)
   pub zero-signed : r .count ≡ 0 → r .negative ≡ v .negative
   pub three-bits : natAbs q % 8 ≡ natAbs exact % 8
-  pub all-bits : natAbs q ≡ natAbs exact % 2 ^ 31
+  pub all-bits : natAbs q ≡ quotientBits (natAbs exact)
   pub minus : ltZ q (pos 0) ≡ true → combined (v .negative) (w .negative) ≡ true
   pub plus : ltZ (pos 0) q ≡ true → combined (v .negative) (w .negative) ≡ false
 
@@ -93,7 +93,7 @@ remquo-of-c f x y v w ex ey p =
         rest = rule Nearest (w .count) (w .negative) v p;
         nearest = rw (magnitude t (o .whole)) (nearest-half (w .count) v p);
         zero-signed = zero-sign Nearest (w .count) v p;
-        three-bits = rw (magnitude t (quotientBits (o .whole)), magnitude t (o .whole)) (shown-bits (o .whole));
+        three-bits = rw (magnitude t (quotientBits (o .whole)), magnitude t (o .whole)) (three-bits (o .whole));
         all-bits = rw (magnitude t (quotientBits (o .whole)), magnitude t (o .whole)) refl;
         minus = below t (quotientBits (o .whole));
         plus = above t (quotientBits (o .whole));
