@@ -25,8 +25,8 @@
  *
  * The remainder of x by y is x - Q*y with Q the quotient |x|/|y|, cut (truncated) or rounded to nearest, a half to the even one (nearest),
  * with the sign of x/y. It is exact. A zero result has the sign of x. The quotient that is told is |Q| modulo 2^31, its low 31 bits. Where
- * one byte shows it, in a folded list and in byte 11 of a block, it is |Q| modulo 8. By an infinite y a finite x is returned, with
- * quotient 0.
+ * there is one byte for it, in a folded list and in byte 11 of a block, that is shown modulo 8. By an infinite y a finite x is returned,
+ * with quotient 0.
  *
  * Where a function returns x (with quotient 0, as by an infinite y; scaling by 0; scaling a split x back; a run with budget 0), it returns
  * the bits of x, with one exception: an x87 pseudo-denormal, which is a number like any other, comes back in its ordinary pattern (see
@@ -123,9 +123,10 @@ uint8_t zk_rem64(uint64_t x, uint64_t y, uint32_t kind, uint64_t *value, uint32_
 uint8_t zk_rem80(uint64_t x, uint16_t xw, uint64_t y, uint16_t yw, uint32_t kind, uint64_t *value, uint16_t *valuew, uint32_t *quotient);
 
 /*
- * The same, and the quotient has the sign of x/y: *quotient gets |Q| modulo 2^31, below zero where just one of x and y is negative. It is
- * from -(2^31 - 1) to 2^31 - 1, and 0 where |Q| modulo 2^31 is 0, whatever the signs. With ZK_NEAREST this is C's remquo, with 31 bits of
- * the quotient where C asks for three; where C's gives a NaN, a call is refused and *value and *quotient stay as they were.
+ * The remainder in one call, as above, with the sign of x/y on its quotient. Returns 0, or refuses with 2 (x87 only), 3, 4 or 5.
+ * *quotient gets |Q| modulo 2^31, below zero where just one of x and y is negative. It is from -(2^31 - 1) to 2^31 - 1, and 0 where |Q|
+ * modulo 2^31 is 0, whatever the signs. With ZK_NEAREST this is C's remquo, with 31 bits of the quotient where C asks for three; where
+ * C's gives a NaN, the call is refused, and *value, *valuew and *quotient stay as they were.
  */
 uint8_t zk_remquo16(uint16_t x, uint16_t y, uint32_t kind, uint16_t *value, int32_t *quotient);
 uint8_t zk_remquo32(uint32_t x, uint32_t y, uint32_t kind, uint32_t *value, int32_t *quotient);
