@@ -3,7 +3,7 @@
 use crate::formats::Layout;
 use crate::Library;
 use second::stem::{self, Gauge, Point, Stem};
-use second::{Answer, Folded, Format, Kind};
+use second::{Answer, Folded, Format, Kind, BLOCK_LENGTH, QUOTIENT_MODULUS};
 
 /// A call of one operation, with its operands in this order. A step or a run is lent a block of
 /// `length` bytes.
@@ -11,6 +11,8 @@ use second::{Answer, Folded, Format, Kind};
 pub enum Call {
     /// format, kind, dividend, divisor
     Remainder(Format, Kind, u128, u128),
+    /// format, kind, dividend, divisor
+    Remquo(Format, Kind, u128, u128),
     /// kind, size, dividend, divisor, length
     Step(Kind, u32, u128, u128, usize),
     /// kind, size, budget, dividend, divisor, length
@@ -61,10 +63,11 @@ pub trait Implementation: Sync {
 pub type Pair<'a> = [&'a dyn Implementation; 2];
 
 /// The length that a block must have.
-pub const LENGTH: usize = zukemoriha::Block::LENGTH;
+pub const LENGTH: usize = BLOCK_LENGTH;
 
 /// No number of an implementation: a call wrote where it may not, its block says another number
-/// than it returned, or it has written more than there is room for.
+/// than it returned or has other bytes than its fields, or it has written more than there is room
+/// for.
 pub const MISWROTE: u8 = 254;
 
 const BAD_LENGTH: u8 = 9;
@@ -76,6 +79,7 @@ pub fn divided(value: u128, number: u8, quotient: u32, steps: u32) -> Answer {
         number,
         value,
         quotient,
+        signed: 0,
         steps,
         says: 0,
         exponent: 0,
@@ -85,6 +89,22 @@ pub fn divided(value: u128, number: u8, quotient: u32, steps: u32) -> Answer {
 /// The answer of a remainder in one call.
 pub fn remained(value: u128, number: u8, quotient: u32) -> Answer {
     divided(value, number, quotient, 0)
+}
+
+/// The answer of a remainder with a signed quotient.
+pub fn signed(value: u128, number: u8, signed: i32) -> Answer {
+    let answer = divided(value, number, 0, 0);
+    Answer { signed, ..answer }
+}
+
+/// An answer that is expected, of which quotients are shown modulo `shown`: the rest is ours.
+pub fn completed(expected: Answer, shown: u32, ours: &Answer) -> Answer {
+    let rest = ours.quotient % QUOTIENT_MODULUS / shown * shown;
+    let quotient = expected.quotient + rest;
+    Answer {
+        quotient,
+        ..expected
+    }
 }
 
 pub fn scaled(value: u128, number: u8, says: u8) -> Answer {
@@ -115,6 +135,7 @@ impl Implementation for Second {
                 refused(Format::X87, BAD_LENGTH)
             }
             Call::Remainder(format, kind, x, y) => second::remainder(format, kind, x, y),
+            Call::Remquo(format, kind, x, y) => second::remquo(format, kind, x, y),
             Call::Step(kind, size, x, y, _) => second::step(kind, size, x, y),
             Call::Run(kind, size, budget, x, y, _) => second::run(kind, size, budget, x, y),
             Call::Scale(format, x, power) => second::scale(format, x, power),

@@ -80,6 +80,10 @@ impl Layout {
         self.stored == self.precision
     }
 
+    pub fn is_negative(&self, x: u128) -> bool {
+        x >> (self.field + self.stored) & 1 == 1
+    }
+
     /// The NaN that stands for the value of a refused call.
     pub fn house_nan(&self) -> u128 {
         self.packed(0, self.ones(), self.leading() | self.leading() >> 1)

@@ -1,4 +1,5 @@
-//! Dividends of binary16 by every divisor, both kinds, on all cores.
+//! Dividends of binary16 by every divisor, both kinds, with the quotient's magnitude and with its
+//! sign, on all cores.
 
 use crate::call::{Call, Pair};
 use crate::Comparison;
@@ -36,8 +37,7 @@ pub fn compare<'a>(
 fn by_every_divisor(pair: Pair, x: u16, shared: &Mutex<Comparison>) -> u64 {
     let mut alike = 0;
     for y in 0..=u16::MAX {
-        for kind in [Kind::Truncated, Kind::Nearest] {
-            let call = Call::Remainder(Format::Binary16, kind, x.into(), y.into());
+        for call in calls(x.into(), y.into()) {
             let answers = pair.map(|who| who.answer(&call));
             if answers[0] == answers[1] {
                 alike += 1;
@@ -47,4 +47,15 @@ fn by_every_divisor(pair: Pair, x: u16, shared: &Mutex<Comparison>) -> u64 {
         }
     }
     alike
+}
+
+/// Four of a pair.
+fn calls(x: u128, y: u128) -> [Call; 4] {
+    let format = Format::Binary16;
+    [
+        Call::Remainder(format, Kind::Truncated, x, y),
+        Call::Remquo(format, Kind::Truncated, x, y),
+        Call::Remainder(format, Kind::Nearest, x, y),
+        Call::Remquo(format, Kind::Nearest, x, y),
+    ]
 }

@@ -1,9 +1,11 @@
 //! The library's answers. What it is lent lies among filled bytes, so that a call that writes more
 //! than it may, or anything with a refusal, is seen.
 
-use crate::call::{divided, refused, remained, scaled, split, Call, Implementation, MISWROTE};
+use crate::call::{
+    divided, refused, remained, scaled, signed, split, Call, Implementation, MISWROTE,
+};
 use second::stem::{Gauge, Point, Stem, ROLLER, TURN};
-use second::{Answer, Folded, Format, Kind};
+use second::{Answer, Folded, Format, Kind, SHOWN_MODULUS};
 use std::ops::Range;
 use zukemoriha::{binary16, binary32, binary64, x87, Block, Refusal, X87};
 
@@ -12,6 +14,8 @@ const FILLED: u8 = 0xA5;
 const SIDE: usize = 16;
 /// What stands where a length goes, and beside it.
 const FILLED_LENGTH: usize = usize::from_ne_bytes([FILLED; 8]);
+/// What stands where a value or a quotient goes, and beside it.
+const FILLED_PLACE: u64 = u64::from_ne_bytes([FILLED; 8]);
 
 /// Calls a function of the format's own module, on operands of its own type, and makes an answer
 /// of two fields of what it returns.
@@ -43,6 +47,9 @@ impl Implementation for Library {
         match *call {
             Call::Remainder(format, kind, x, y) => {
                 in_format!(format, remainder(x, y; kind_of(kind)), remained(value, quotient))
+            }
+            Call::Remquo(format, kind, x, y) => {
+                in_format!(format, remquo(x, y; kind_of(kind)), signed(value, quotient))
             }
             Call::Step(kind, size, x, y, length) => lent(length, |room, block| {
                 let (x, y) = (operand(x), operand(y));
@@ -127,20 +134,26 @@ where
     let mut room = vec![FILLED; SIDE + length + SIDE];
     let place = SIDE..SIDE + length;
     let told = call(&mut room, place.clone());
-    let written: Result<[u8; Block::LENGTH], _> = room[place.clone()].try_into();
+    let written = room[place.clone()].to_vec();
     if told.is_ok() {
         room[place].fill(FILLED);
     }
     let kept = room.iter().all(|&byte| byte == FILLED);
-    let block = written.ok().as_ref().and_then(Block::from_bytes);
-    match (told, block) {
+    match (told, read_block(&written)) {
         (Err(why), _) if kept => refused(Format::X87, why.number()),
-        (Ok(answer), Some(block)) if kept && block.answer == answer => {
-            let quotient = block.quotient.into();
-            divided(pattern(block.value), answer.number(), quotient, block.steps)
-        }
+        (Ok(answer), Some(read)) if kept && read.number == answer.number() => read,
         _ => refused(Format::X87, MISWROTE),
     }
+}
+
+/// The fields of a block, if they are laid out in its bytes as the second implementation does it.
+fn read_block(bytes: &[u8]) -> Option<Answer> {
+    let block = Block::from_bytes(bytes.try_into().ok()?)?;
+    let (value, number) = (pattern(block.value), block.answer.number());
+    let answer = divided(value, number, block.quotient, block.steps);
+    let octant = u32::from(block.octant);
+    let is_so = octant == block.quotient % SHOWN_MODULUS && second::block(&answer) == bytes;
+    is_so.then_some(answer)
 }
 
 /// What a fold that is lent lists of `n` places tells. It gets them with one place more.
@@ -151,11 +164,10 @@ pub fn lent_lists<F>(n: usize, fold: F) -> Result<Folded, u8>
 where
     F: FnOnce(&mut [u64], &mut [u8]) -> Result<usize, Refusal>,
 {
-    let filled = u64::from_ne_bytes([FILLED; 8]);
-    let (mut results, mut quotients) = (vec![filled; n + 1], vec![FILLED; n + 1]);
+    let (mut results, mut quotients) = (vec![FILLED_PLACE; n + 1], vec![FILLED; n + 1]);
     let told = fold(&mut results, &mut quotients);
     let written = if told.is_ok() { n } else { 0 };
-    let kept = results.drain(written..).all(|place| place == filled)
+    let kept = results.drain(written..).all(|place| place == FILLED_PLACE)
         && quotients.drain(written..).all(|byte| byte == FILLED);
     match told {
         _ if !kept => Err(MISWROTE),
@@ -165,6 +177,41 @@ where
             quotients,
             marked,
         }),
+    }
+}
+
+/// The value and the 32 bits of a quotient that a call writes which returns a number. It gets seven
+/// places of eight bytes: the value goes to the second, the word of x87 to the fourth, and the
+/// quotient to the sixth.
+///
+/// # Errors
+/// The number that the call returns.
+pub fn lent_places<F>(format: Format, call: F) -> Result<(u128, u32), u8>
+where
+    F: FnOnce(&mut [u64; 7]) -> u8,
+{
+    let mut places = [FILLED_PLACE; 7];
+    let number = call(&mut places);
+    let (value, word) = match format {
+        Format::Binary16 => (2, 0),
+        Format::Binary32 => (4, 0),
+        Format::Binary64 => (8, 0),
+        Format::X87 => (8, 2),
+    };
+    let is_filled = |(place, bytes): (&u64, usize)| {
+        let behind = &place.to_le_bytes()[bytes..];
+        behind.iter().all(|&byte| byte == FILLED)
+    };
+    let bytes = match number {
+        0 => [0, value, 0, word, 0, 4, 0],
+        _ => [0; 7],
+    };
+    let kept = places.iter().zip(bytes).all(is_filled);
+    let written = |at: usize| u128::from(places[at]) & ((1 << (8 * bytes[at])) - 1);
+    match number {
+        _ if !kept => Err(MISWROTE),
+        0 => Ok((written(3) << 64 | written(1), written(5) as u32)),
+        _ => Err(number),
     }
 }
 

@@ -4,7 +4,7 @@
 use crate::formats::Layout;
 use crate::operands::Draw;
 use crate::{Comparison, PAIR};
-use second::{Format, Kind};
+use second::{Format, Kind, SHOWN_MODULUS};
 
 /// How many bytes the program's buffer holds, and how many it keeps of a line that has begun.
 pub const BUFFER: usize = 65_536;
@@ -45,7 +45,8 @@ fn answer(line: &[u8]) -> String {
     match operands(line) {
         Some((x, y)) => {
             let told = second::remainder(Format::Binary64, Kind::Truncated, x, y);
-            format!("{:016X} {} {}\n", told.value, told.quotient, told.number)
+            let shown = told.quotient % SHOWN_MODULUS;
+            format!("{:016X} {shown} {}\n", told.value, told.number)
         }
         None => "bad line\n".into(),
     }

@@ -1,19 +1,21 @@
 //! Lists of x87 steps and runs, each from the value that the last accepted call gave: x y kind
-//! calls, then last value, last number, steps, quotient bits, finished.
+//! calls, then last value, last number, steps, quotient, finished.
 //!
 //! Commas part the calls: s33 is a step of size 33, r63:5 a run of size 63 with budget 5. A b
 //! behind a call is a block of the wrong length. A - stands for no call, and for no number.
 
-use crate::call::{divided, remained, Call, Implementation, Pair, LENGTH};
+use crate::call::{completed, divided, remained, Call, Implementation, Pair, LENGTH};
 use crate::fields::{number, Fields};
 use crate::Comparison;
 use second::{Answer, Format, Kind};
+use zukemoriha::QUOTIENT_MODULUS;
 
 /// The number of a list none of whose calls was accepted.
 const NONE: u8 = u8::MAX;
 
-/// A file, and how many of its lists finish: those come to the remainder of one call.
-pub fn compare<'a>(pair: Pair<'a>, text: &str) -> (Comparison<'a>, u64) {
+/// A file that shows quotients modulo `shown`, and how many of its lists finish: those come to the
+/// remainder of one call.
+pub fn compare<'a>(pair: Pair<'a>, shown: u32, text: &str) -> (Comparison<'a>, u64) {
     let mut comparison = Comparison::new(pair);
     let mut finished = 0;
     for line in text.lines() {
@@ -24,6 +26,7 @@ pub fn compare<'a>(pair: Pair<'a>, text: &str) -> (Comparison<'a>, u64) {
         assert!(f.is_empty(), "too long: {line}");
 
         let [ours, theirs] = comparison.ask(|who| follow(who, &calls, kind, x, y));
+        let expected = completed(expected, shown, &ours.1);
         comparison.hold(&line, &[&ours.0, &theirs.0], None);
         comparison.hold(&line, &[ours.1, theirs.1], Some(&expected));
         if expected.number == 0 {
@@ -37,8 +40,8 @@ pub fn compare<'a>(pair: Pair<'a>, text: &str) -> (Comparison<'a>, u64) {
 }
 
 /// The answers to the calls of a list, and what they come to: the last accepted value and number,
-/// the steps and the quotient bits added up. A list ends at its first 0, and says 1 then. Without
-/// an accepted call the value is the dividend as given.
+/// the steps added up, and the quotients modulo 2^31. A list ends at its first 0, and says 1 then.
+/// Without an accepted call the value is the dividend as given.
 fn follow(
     who: &dyn Implementation,
     calls: &[&str],
@@ -52,7 +55,8 @@ fn follow(
         let told = who.answer(&call(word, kind, sum.value, y));
         answers.push(told);
         if matches!(told.number, 0 | 1 | 7) {
-            let quotient = (sum.quotient + told.quotient % 8) % 8;
+            let told_part = told.quotient % QUOTIENT_MODULUS;
+            let quotient = (sum.quotient + told_part) % QUOTIENT_MODULUS;
             let steps = sum.steps.wrapping_add(told.steps);
             sum = divided(told.value, told.number, quotient, steps);
         }

@@ -39,7 +39,8 @@ fn call(op: &str, format: Format, x: &str, y: &str) -> (u128, Call) {
     let x = pattern(format, x);
     let call = match op {
         "T" => Call::Remainder(format, Kind::Truncated, x, pattern(format, y)),
-        "N" | "Q" => Call::Remainder(format, Kind::Nearest, x, pattern(format, y)),
+        "N" => Call::Remainder(format, Kind::Nearest, x, pattern(format, y)),
+        "Q" => Call::Remquo(format, Kind::Nearest, x, pattern(format, y)),
         "S" => Call::Scale(format, x, number(y)),
         "F" => Call::Split(format, x),
         _ => panic!("no operation: {op}"),
@@ -48,7 +49,8 @@ fn call(op: &str, format: Format, x: &str, y: &str) -> (u128, Call) {
 }
 
 /// What a line prints; what it leaves out is ours. Any refusal is right where it prints a NaN. The
-/// quotient has a sign and 31 bits, three of which are compared.
+/// quotient has a sign and 31 bits, and all of them are compared: with remquo's, and without the
+/// sign with that of a remainder.
 fn printed(op: &str, format: Format, expected: &str, q: &str, ours: Answer) -> Answer {
     match (expected, ours.number) {
         ("nan", 0) => return refused(format, NAN),
@@ -61,7 +63,8 @@ fn printed(op: &str, format: Format, expected: &str, q: &str, ours: Answer) -> A
     match (op, q) {
         (_, "-") | ("S", _) => {}
         ("F", q) => printed.exponent = number(q),
-        (_, q) => printed.quotient = (number::<i64>(q).abs() % 8) as u32,
+        ("Q", q) => printed.signed = number(q),
+        (_, q) => printed.quotient = number::<i32>(q).unsigned_abs(),
     }
     printed
 }

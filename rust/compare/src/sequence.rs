@@ -1,11 +1,11 @@
 //! A generated sequence of operand pairs, each through every operation that its format has, and
 //! what it covers.
 
-use crate::call::{Call, Pair, LENGTH};
+use crate::call::{signed, Call, Pair, LENGTH};
 use crate::formats::{Layout, FORMATS};
 use crate::operands::{Draw, BANDS};
 use crate::Comparison;
-use second::{Format, Kind};
+use second::{Answer, Format, Kind};
 use std::collections::BTreeMap;
 
 const SEED: u64 = 1;
@@ -33,9 +33,17 @@ pub fn compare(pair: Pair, pairs: usize) -> (Comparison, Covered) {
         {
             note(format!("gap {}", band(layout.top(), x_place, y_place)));
         }
+        let signs_differ = layout.is_negative(x) != layout.is_negative(y);
+        let mut expected = None;
         for call in calls(format, &mut draw, x, y) {
-            let told = comparison.call(&call, None);
+            let told = comparison.call(&call, expected.take().as_ref());
             note(format!("number {}", told.number));
+            if matches!(call, Call::Remainder(..)) {
+                expected = Some(with_sign(&told, signs_differ));
+            }
+            if matches!(call, Call::Remquo(..)) && told.number == 0 {
+                note(quotient_band(told.signed, signs_differ));
+            }
             if matches!(call, Call::Scale(..)) && told.number == 0 {
                 note(format!("scaling says {}", told.says));
             }
@@ -56,6 +64,24 @@ fn returned(call: &Call, number: u8) -> Option<&'static str> {
     }
 }
 
+/// What remquo has to answer, by what the remainder just before it was answered.
+fn with_sign(remainder: &Answer, signs_differ: bool) -> Answer {
+    let sign = if signs_differ { -1 } else { 1 };
+    let quotient = (remainder.quotient as i32).wrapping_mul(sign);
+    signed(remainder.value, remainder.number, quotient)
+}
+
+fn quotient_band(quotient: i32, signs_differ: bool) -> String {
+    let sign = if signs_differ { "minus" } else { "plus" };
+    let least = match quotient.unsigned_abs() {
+        0 => return format!("quotient {sign} 0"),
+        1..=7 => "1",
+        8..=0x3FFF_FFFF => "8",
+        _ => "2^30",
+    };
+    format!("quotient {sign}, from {least}")
+}
+
 fn band(top: u64, x: u64, y: u64) -> String {
     match x.checked_sub(y) {
         None => "negative".into(),
@@ -67,13 +93,15 @@ fn band(top: u64, x: u64, y: u64) -> String {
     }
 }
 
-/// A remainder of both kinds, a scaling and a splitting; in x87 a step and a run of both kinds.
+/// A scaling and a splitting; of both kinds a remainder and then remquo; in x87 also a step and a run
+/// of both kinds.
 fn calls(format: Format, draw: &mut Draw, x: u128, y: u128) -> Vec<Call> {
     let power = power(draw, &Layout::of(format), x);
     let mut calls = vec![Call::Scale(format, x, power), Call::Split(format, x)];
     let (size, budget, length) = (size(draw), budget(draw), length(draw));
     for kind in [Kind::Truncated, Kind::Nearest] {
         calls.push(Call::Remainder(format, kind, x, y));
+        calls.push(Call::Remquo(format, kind, x, y));
         if format == Format::X87 {
             calls.push(Call::Step(kind, size, x, y, length));
             calls.push(Call::Run(kind, size, budget, x, y, length));
@@ -115,10 +143,10 @@ fn budget(draw: &mut Draw) -> u32 {
     }
 }
 
-/// Now and then a wrong one, of which one more has the right last byte.
+/// Now and then a wrong one: one has no place for the quotient, and one the right last byte.
 fn length(draw: &mut Draw) -> usize {
     match draw.below(64) {
-        0 => [0, LENGTH - 1, LENGTH + 1, LENGTH + 256][draw.below(4) as usize],
+        0 => [0, 16, LENGTH - 1, LENGTH + 1, LENGTH + 256][draw.below(5) as usize],
         _ => LENGTH,
     }
 }

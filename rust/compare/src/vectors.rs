@@ -1,19 +1,23 @@
-//! Computed vectors: files of remainders, steps, runs, scalings and splittings.
+//! Computed vectors: files of remainders, with the quotient's magnitude or with its sign, of steps,
+//! runs, scalings and splittings.
 
-use crate::call::{divided, remained, scaled, split, Call, Pair, LENGTH};
-use crate::fields::{format_named, Fields};
+use crate::call::{completed, divided, remained, scaled, signed, split, Call, Pair, LENGTH};
+use crate::fields::{format_named, number, Fields};
 use crate::Comparison;
 use second::{Answer, Format, Kind};
 
-/// A file by its name, which is OPERATION-FORMAT.txt, and its text.
-pub fn compare<'a>(pair: Pair<'a>, name: &str, text: &str) -> Comparison<'a> {
+/// A file by its name, which is OPERATION-FORMAT.txt, and its text. It shows the magnitudes of
+/// quotients modulo `shown`.
+pub fn compare<'a>(pair: Pair<'a>, name: &str, shown: u32, text: &str) -> Comparison<'a> {
     let parts = name.trim_end_matches(".txt").split_once('-');
     let (operation, format) = parts.expect("OPERATION-FORMAT.txt");
     let mut comparison = Comparison::new(pair);
     for line in text.lines() {
         let mut fields = Fields(line.split_whitespace());
         for (call, expected) in cases(operation, format_named(format), &mut fields) {
-            comparison.call(&call, Some(&expected));
+            let answers = comparison.ask(|who| who.answer(&call));
+            let expected = completed(expected, shown, &answers[0]);
+            comparison.hold(&call, &answers, Some(&expected));
         }
         assert!(fields.is_empty(), "too long: {line}");
         comparison.lines += 1;
@@ -25,15 +29,24 @@ pub fn compare<'a>(pair: Pair<'a>, name: &str, text: &str) -> Comparison<'a> {
 fn cases(operation: &str, format: Format, f: &mut Fields) -> Vec<(Call, Answer)> {
     let x = f.pattern(format);
     match operation {
-        "rem" => {
+        "rem" | "remquo" => {
             let y = f.pattern(format);
-            let (cut, cut_bits) = (f.pattern(format), f.number());
-            let (near, near_bits) = (f.pattern(format), f.number());
-            let number = f.number();
-            let call = |kind| Call::Remainder(format, kind, x, y);
+            let (cut, cut_quotient) = (f.pattern(format), f.word());
+            let (near, near_quotient) = (f.pattern(format), f.word());
+            let told = f.number();
+            let case = |kind, value, quotient| match operation {
+                "rem" => (
+                    Call::Remainder(format, kind, x, y),
+                    remained(value, told, number(quotient)),
+                ),
+                _ => (
+                    Call::Remquo(format, kind, x, y),
+                    signed(value, told, number(quotient)),
+                ),
+            };
             vec![
-                (call(Kind::Truncated), remained(cut, number, cut_bits)),
-                (call(Kind::Nearest), remained(near, number, near_bits)),
+                case(Kind::Truncated, cut, cut_quotient),
+                case(Kind::Nearest, near, near_quotient),
             ]
         }
         "step" | "run" => {

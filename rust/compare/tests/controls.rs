@@ -155,18 +155,27 @@ impl Implementation for Writing {
     }
 }
 
+/// What a file shows quotients modulo.
+fn shown(path: &str) -> u32 {
+    if path.contains("octants/") {
+        SHOWN_MODULUS
+    } else {
+        QUOTIENT_MODULUS
+    }
+}
+
 /// The differences in a file.
 fn in_file(pair: Pair, path: &str, text: &str) -> u64 {
     let name = path.rsplit('/').next().unwrap();
     match name.split('-').next().unwrap() {
         "published" => published::compare(pair, text, "").0.different,
-        "list" => lists::compare(pair, text).0.different,
+        "list" => lists::compare(pair, shown(path), text).0.different,
         "fold" => folds::compare(pair, text).different,
-        _ => vectors::compare(pair, name, text).different,
+        _ => vectors::compare(pair, name, shown(path), text).different,
     }
 }
 
-const FILES: [&str; 7] = [
+const FILES: [&str; 13] = [
     "computed/rem-binary16.txt",
     "computed/step-x87.txt",
     "computed/run-x87.txt",
@@ -174,6 +183,12 @@ const FILES: [&str; 7] = [
     "computed/split-binary32.txt",
     "computed/list-x87.txt",
     "published/published-gcc.txt",
+    "computed/remquo-binary32.txt",
+    "computed/remquo-x87.txt",
+    "computed/octants/rem-binary64.txt",
+    "computed/octants/step-x87.txt",
+    "computed/octants/run-x87.txt",
+    "computed/octants/list-x87.txt",
 ];
 
 #[test]
@@ -184,8 +199,14 @@ fn one_wrong_answer_is_noticed() {
             let different = in_file([&altered(), &Second], path, &read(path));
             assert!(different > 0, "{what}, {path}");
         }
+        // a remainder may be noticed once more where remquo is held to it; then remquo, and a scaling
         let different = sequence::compare([&altered(), &Second], 100).0.different;
-        assert_eq!(different, 1, "{what}, sequence");
+        assert!(different > 0, "{what}, sequence");
+        for left in [6, 7] {
+            let altered = Altered::later_answer(change, left);
+            let different = sequence::compare([&altered, &Second], 100).0.different;
+            assert_eq!(different, 1, "{what}, sequence, {left}");
+        }
         let different = half::compare([&altered(), &Second], &[0x3C00], &|_| ()).different;
         assert_eq!(different, 1, "{what}, half");
     }
@@ -627,13 +648,23 @@ fn another_written_file_is_noticed() {
 fn one_wrong_field_of_a_file_is_noticed() {
     for (path, line, fields) in [
         ("computed/rem-x87.txt", 0, 2..7),
+        ("computed/remquo-binary16.txt", 0, 2..7),
+        ("computed/remquo-binary32.txt", 1, 2..7),
+        ("computed/remquo-binary64.txt", 2, 2..7),
+        ("computed/remquo-x87.txt", 3, 2..7),
         ("computed/step-x87.txt", 0, 4..8),
         ("computed/run-x87.txt", 0, 5..9),
         ("computed/list-x87.txt", 0, 4..9),
+        ("computed/list-x87.txt", 2, 4..9),
+        ("computed/octants/rem-x87.txt", 0, 2..7),
+        ("computed/octants/step-x87.txt", 0, 4..8),
+        ("computed/octants/run-x87.txt", 0, 5..9),
+        ("computed/octants/list-x87.txt", 0, 4..9),
         ("computed/scale-binary32.txt", 1, 2..5),
         ("computed/split-binary16.txt", 3, 1..4),
         ("computed/fold-binary64.txt", 0, 2..4),
         ("computed/fold-binary64.txt", 1, 1..3),
+        ("published/published-gcc.txt", 0, 4..6),
         ("published/published-gcc.txt", 1, 4..6),
         ("published/published-golang.txt", 124, 4..6),
     ] {
@@ -649,6 +680,8 @@ fn one_wrong_field_of_a_file_is_noticed() {
 fn a_missing_case_is_noticed() {
     for (path, lines) in [
         ("computed/rem-x87.txt", 1),
+        ("computed/remquo-x87.txt", 1),
+        ("computed/octants/rem-x87.txt", 1),
         ("computed/list-x87.txt", 1),
         ("computed/fold-binary64.txt", 2),
         ("published/published-ruby.txt", 1),
@@ -656,10 +689,10 @@ fn a_missing_case_is_noticed() {
         let name = path.rsplit('/').next().unwrap();
         let text = read(path);
         let [all, less] = [text.clone(), shortened(&text, lines)].map(|text| match name {
-            "list-x87.txt" => lists::compare(PAIR, &text).0.lines,
+            "list-x87.txt" => lists::compare(PAIR, shown(path), &text).0.lines,
             "fold-binary64.txt" => folds::compare(PAIR, &text).lines,
             "published-ruby.txt" => published::compare(PAIR, &text, "").0.lines,
-            _ => vectors::compare(PAIR, name, &text).lines,
+            _ => vectors::compare(PAIR, name, shown(path), &text).lines,
         });
         assert_eq!(less + lines as u64, all, "{path}");
     }
@@ -692,7 +725,8 @@ fn a_wrong_cell_is_noticed() {
     let (_, right) = sequence::compare(PAIR, 100);
     let changes: [Change<Answer>; 2] = [|answer| answer.number = 5, |answer| answer.says ^= 2];
     for change in changes {
-        let both = [Altered::answer(change), Altered::answer(change)];
+        // a scaling
+        let both = [(); 2].map(|_| Altered::later_answer(change, 7));
         let (comparison, wrong) = sequence::compare([&both[0], &both[1]], 100);
         assert_eq!(comparison.different, 0);
         assert_ne!(wrong, right);
@@ -736,6 +770,7 @@ fn turned(call: &Call, bits: u128) -> Answer {
         Call::Remainder(Format::X87, kind, x, y) => {
             Call::Remainder(Format::X87, kind, read(x), read(y))
         }
+        Call::Remquo(Format::X87, kind, x, y) => Call::Remquo(Format::X87, kind, read(x), read(y)),
         Call::Step(kind, size, x, y, length) => Call::Step(kind, size, read(x), read(y), length),
         Call::Run(kind, size, budget, x, y, length) => {
             Call::Run(kind, size, budget, read(x), read(y), length)
@@ -759,7 +794,7 @@ fn as_given(call: &Call, x: u128) -> Answer {
 #[test]
 fn another_way_with_pseudo_denormals_is_noticed() {
     const INFINITY: u128 = 0x7FFF << 64 | 1 << 63;
-    let every = ["rem", "step", "run", "list", "scale", "split"];
+    let every = ["rem", "remquo", "step", "run", "list", "scale", "split"];
     let ways: [(&str, Answerer, &[&str]); 5] = [
         // field 1 without a leading bit
         ("refused", |call| turned(call, 3 << 63), &every),
@@ -768,11 +803,12 @@ fn another_way_with_pseudo_denormals_is_noticed() {
             "as given by infinity",
             |call| match *call {
                 Call::Remainder(_, _, x, INFINITY)
+                | Call::Remquo(_, _, x, INFINITY)
                 | Call::Step(_, _, x, INFINITY, _)
                 | Call::Run(_, _, 1.., x, INFINITY, _) => as_given(call, x),
                 _ => Library.answer(call),
             },
-            &every[..3],
+            &every[..4],
         ),
         (
             "as given with budget 0",
@@ -780,7 +816,7 @@ fn another_way_with_pseudo_denormals_is_noticed() {
                 Call::Run(_, _, 0, x, ..) => as_given(call, x),
                 _ => Library.answer(call),
             },
-            &every[2..4],
+            &every[3..5],
         ),
         (
             "as given scaled by 0",
@@ -788,7 +824,7 @@ fn another_way_with_pseudo_denormals_is_noticed() {
                 Call::Scale(Format::X87, x, 0) => as_given(call, x),
                 _ => Library.answer(call),
             },
-            &every[4..5],
+            &every[5..6],
         ),
     ];
     for (what, answer, operations) in ways {
@@ -846,14 +882,17 @@ fn a_wrong_output_of_the_line_program_is_noticed() {
 fn a_block_that_is_written_wrongly_is_noticed() {
     for (written, told, number) in [
         (0..0, Err(BadSize), 6),
-        (1..17, Ok(Finished), 0),
-        (16..17, Err(BadSize), MISWROTE),
-        (0..17, Ok(Finished), MISWROTE),
-        (1..18, Ok(Finished), MISWROTE),
-        (1..17, Ok(Partial), MISWROTE),
+        (1..21, Ok(Finished), 0),
+        (20..21, Err(BadSize), MISWROTE),
+        (0..21, Ok(Finished), MISWROTE),
+        (1..22, Ok(Finished), MISWROTE),
+        (1..21, Ok(Partial), MISWROTE),
+        // without the quotient, and a place further
+        (1..17, Ok(Finished), MISWROTE),
+        (2..22, Ok(Finished), MISWROTE),
         (0..0, Ok(Finished), MISWROTE),
     ] {
-        let answer = lent(16, |room, block| {
+        let answer = lent(20, |room, block| {
             room[block.start - 1..][written.clone()].fill(0);
             told
         });
@@ -883,6 +922,48 @@ fn lists_that_are_written_wrongly_are_noticed() {
             "{results:?}, {quotients:?}, {told:?}"
         );
     }
+}
+
+/// How many bytes of the seven places a call writes, what it returns, and whether that is noticed.
+#[test]
+fn places_that_are_written_wrongly_are_noticed() {
+    use Format::{Binary16, Binary32, Binary64, X87};
+    for (format, written, returned, number) in [
+        (X87, [0; 7], 5, 5),
+        (Binary16, [0; 7], 3, 3),
+        (Binary16, [0, 2, 0, 0, 0, 0, 0], 5, MISWROTE),
+        (Binary32, [0, 0, 0, 0, 0, 4, 0], 4, MISWROTE),
+        (Binary64, [0, 0, 0, 0, 0, 1, 0], 5, MISWROTE),
+        (X87, [0, 8, 0, 0, 0, 0, 0], 2, MISWROTE),
+        (X87, [0, 0, 0, 2, 0, 0, 0], 2, MISWROTE),
+        (X87, [0, 0, 0, 0, 0, 4, 0], 3, MISWROTE),
+        (X87, [1, 0, 0, 0, 0, 0, 0], 4, MISWROTE),
+        (Binary16, [0, 2, 0, 0, 0, 4, 0], 0, 0),
+        (Binary32, [0, 4, 0, 0, 0, 4, 0], 0, 0),
+        (Binary64, [0, 8, 0, 0, 0, 4, 0], 0, 0),
+        (X87, [0, 8, 0, 2, 0, 4, 0], 0, 0),
+        (Binary16, [0, 4, 0, 0, 0, 4, 0], 0, MISWROTE),
+        (Binary32, [0, 8, 0, 0, 0, 4, 0], 0, MISWROTE),
+        (Binary64, [0, 8, 1, 0, 0, 4, 0], 0, MISWROTE),
+        (Binary64, [0, 8, 0, 2, 0, 4, 0], 0, MISWROTE),
+        (X87, [0, 8, 0, 4, 0, 4, 0], 0, MISWROTE),
+        (X87, [0, 8, 0, 2, 0, 8, 0], 0, MISWROTE),
+        (X87, [0, 8, 0, 2, 0, 4, 1], 0, MISWROTE),
+    ] {
+        let told = lent_places(format, |places| {
+            for (place, bytes) in places.iter_mut().zip(written) {
+                let mut kept = place.to_le_bytes();
+                kept[..bytes].fill(0);
+                *place = u64::from_le_bytes(kept);
+            }
+            returned
+        });
+        let expected = if number == 0 { Ok((0, 0)) } else { Err(number) };
+        assert_eq!(told, expected, "{format:?}, {written:?}, {returned}");
+    }
+    // one that is not written is as it was
+    let told = lent_places(X87, |_| 0);
+    assert_eq!(told, Ok((0xA5A5_A5A5_A5A5_A5A5_A5A5, 0xA5A5_A5A5)));
 }
 
 /// Bytes from one before a room of 60 on, and what the writer tells.

@@ -3,7 +3,7 @@
 mod altered;
 
 use altered::altered_text;
-use compare::{lists, read, PAIR};
+use compare::{lists, read, PAIR, QUOTIENT_MODULUS, SHOWN_MODULUS};
 
 /// Lists from pseudo-denormals, in the layout of the file. First those without an accepted call,
 /// which end in the dividend as given: no call, bad sizes and blocks, divisors that are a NaN,
@@ -20,24 +20,29 @@ const PSEUDO_DENORMALS: &str = "\
 00008000000000000007 3FFF8000000000000000 0 r63:0 00018000000000000007 7 0 0 0
 80008000000000000007 00000000000000000005 1 s31,r63:0,r32:0,s63b 80018000000000000007 7 0 0 0
 80008000000000000007 FFFF8000000000000000 0 r63:0,r63:9 80018000000000000007 0 1 0 1
-00008000000000000009 00000000000000000005 0 r32:0,s63 00000000000000000002 0 1 3 1
+00008000000000000009 00000000000000000005 0 r32:0,s63 00000000000000000002 0 1 429496731 1
 80008000000000000007 0000C000000000000000 1 r63:0,r63:1 00003FFFFFFFFFFFFFF9 0 1 1 1
 ";
 
+/// A file with whole quotients, and one with octants.
 #[test]
 fn lists_of_calls() {
-    let (comparison, finished) = lists::compare(PAIR, &read("computed/list-x87.txt"));
-    comparison.sum_up("list-x87.txt");
-    println!("{} answers; {finished} lists finish", comparison.answers);
-    assert_eq!(
-        (comparison.lines, finished, comparison.different),
-        (840, 563, 0)
-    );
+    for (name, shown, expected) in [
+        ("list-x87.txt", QUOTIENT_MODULUS, (200, 139, 0)),
+        ("octants/list-x87.txt", SHOWN_MODULUS, (840, 563, 0)),
+    ] {
+        let text = read(&format!("computed/{name}"));
+        let (comparison, finished) = lists::compare(PAIR, shown, &text);
+        comparison.sum_up(name);
+        println!("{} answers; {finished} lists finish", comparison.answers);
+        let found = (comparison.lines, finished, comparison.different);
+        assert_eq!(found, expected, "{name}");
+    }
 }
 
 #[test]
 fn lists_from_pseudo_denormals() {
-    let (comparison, finished) = lists::compare(PAIR, PSEUDO_DENORMALS);
+    let (comparison, finished) = lists::compare(PAIR, QUOTIENT_MODULUS, PSEUDO_DENORMALS);
     assert_eq!(
         (comparison.lines, finished, comparison.different),
         (11, 3, 0)
@@ -50,7 +55,7 @@ fn a_wrong_row_is_noticed() {
     for row in 0..PSEUDO_DENORMALS.lines().count() {
         for field in 4..9 {
             let text = altered_text(PSEUDO_DENORMALS, row, field);
-            let different = lists::compare(PAIR, &text).0.different;
+            let different = lists::compare(PAIR, QUOTIENT_MODULUS, &text).0.different;
             assert!(different > 0, "row {row}, field {field}");
         }
     }

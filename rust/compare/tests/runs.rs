@@ -1,11 +1,11 @@
-//! Runs that the generated sequence does not draw: spent with quotient bits, and the longest ones.
+//! Runs that the generated sequence does not draw: spent with quotients, and the longest ones.
 
 mod altered;
 
 use altered::{Altered, CHANGES};
-use compare::{Call, Comparison, Kind, Pair, Second, PAIR};
+use compare::{Call, Comparison, Kind, Pair, Second, PAIR, SHOWN_MODULUS};
 
-const LENGTH: usize = 16;
+const LENGTH: usize = 20;
 const SPENT: u8 = 7;
 
 /// The power of two with this exponent, and a small whole number, in x87.
@@ -34,33 +34,36 @@ fn pairs() -> impl Iterator<Item = (u128, u128)> {
     pairs.flat_map(|(x, y)| [(x, y), lowered(x, y)])
 }
 
-/// A part has low bits where D - n is 1 or 2, so that runs that are spent there tell some. Returns
-/// also how many did after two or more steps.
-fn spent_runs(pair: Pair) -> (Comparison, u32) {
+/// A part has low bits where D - n is below 31, and an octant where it is 1 or 2, so that runs that
+/// are spent there tell some. Returns also how many did after two or more steps, and how many told
+/// an octant.
+fn spent_runs(pair: Pair) -> (Comparison, [u32; 2]) {
     let mut comparison = Comparison::new(pair);
-    let mut with_bits = 0;
+    let (mut with_quotient, mut with_octant) = (0, 0);
     for (x, y) in pairs() {
-        for size in 61..=63 {
+        for size in [33, 34, 48, 61, 62, 63] {
             for budget in 1..=3 {
                 let call = Call::Run(Kind::Truncated, size, budget, x, y, LENGTH);
                 let told = comparison.call(&call, None);
-                let spent = told.number == SPENT && told.steps == budget;
-                with_bits += u32::from(spent && budget > 1 && told.quotient != 0);
+                if told.number == SPENT && told.steps == budget && budget > 1 {
+                    with_quotient += u32::from(told.quotient != 0);
+                    with_octant += u32::from(told.quotient % SHOWN_MODULUS != 0);
+                }
             }
         }
     }
-    (comparison, with_bits)
+    (comparison, [with_quotient, with_octant])
 }
 
 #[test]
-fn spent_runs_tell_their_bits() {
-    let (comparison, with_bits) = spent_runs(PAIR);
+fn spent_runs_tell_their_quotients() {
+    let (comparison, [with_quotient, with_octant]) = spent_runs(PAIR);
     println!(
-        "{} runs, {with_bits} spent with bits after two or more steps",
+        "{} runs; spent after two or more steps: {with_quotient} with quotient, {with_octant} with octant",
         comparison.answers
     );
-    assert_eq!((comparison.answers, comparison.different), (75_888, 0));
-    assert!(with_bits > 0);
+    assert_eq!((comparison.answers, comparison.different), (151_776, 0));
+    assert!(with_quotient > with_octant && with_octant > 0);
 }
 
 /// The largest gaps, the last with a pseudo-denormal for a divisor, with as many steps as they
@@ -115,11 +118,12 @@ fn the_longest_runs_take_their_steps() {
 #[test]
 fn a_wrong_run_is_noticed() {
     for (what, change) in CHANGES {
-        for compare_runs in [spent_runs, longest_runs] {
-            let altered = Altered::answer(change);
-            let (comparison, _) = compare_runs([&altered, &Second]);
-            assert_eq!(comparison.different, 1, "{what}");
-        }
+        let altered = Altered::answer(change);
+        let (comparison, _) = spent_runs([&altered, &Second]);
+        assert_eq!(comparison.different, 1, "{what}");
+        let altered = Altered::answer(change);
+        let (comparison, _) = longest_runs([&altered, &Second]);
+        assert_eq!(comparison.different, 1, "{what}, longest");
     }
 }
 

@@ -4,8 +4,13 @@
 use crate::format::{Class, Format, Magnitude, Operand};
 use crate::Kind;
 
-/// Quotients are told modulo this: three bits, an octant.
-pub(crate) const QUOTIENT_MODULUS: u32 = 8;
+/// Quotients are told modulo this: 31 bits. The double of what is below it, and a one more, is still
+/// a `u32`, and so is the sum of two.
+pub const QUOTIENT_MODULUS: u32 = 1 << 31;
+
+/// One byte of a folded list or of a block shows a quotient modulo this, and so does a line of the
+/// line program: three bits, an octant.
+pub const SHOWN_MODULUS: u32 = 8;
 
 /// A step finishes where the exponents of its operands differ by less than this.
 const FINISHING_GAP: i32 = 64;

@@ -4,6 +4,7 @@
 #![forbid(unsafe_code)]
 #![warn(missing_docs)]
 
+mod block;
 mod checks;
 mod difference;
 mod division;
@@ -12,9 +13,10 @@ mod scaling;
 pub mod stem;
 
 use checks::{first_refusal, Task, FINISHED, PARTIAL, SPENT};
-use division::QUOTIENT_MODULUS;
 use format::Class;
 
+pub use block::{block, BLOCK_LENGTH};
+pub use division::{QUOTIENT_MODULUS, SHOWN_MODULUS};
 pub use format::Format;
 
 /// The quotient byte of a place in a list whose dividend is a NaN or infinite.
@@ -37,8 +39,10 @@ pub struct Answer {
     pub number: u8,
     /// The pattern of the result: the ordinary one, where x87 has two for a value.
     pub value: u128,
-    /// The quotient's magnitude modulo 8, or the part of it that was taken.
+    /// The quotient's magnitude modulo 2^31, or the part of it that was taken.
     pub quotient: u32,
+    /// The same with the quotient's sign (remquo).
+    pub signed: i32,
     /// How many steps were taken (step and run).
     pub steps: u32,
     /// What scaling did to the magnitude: 0 exact, 1 rounded up, 2 rounded down.
@@ -53,6 +57,7 @@ impl Answer {
             number,
             value,
             quotient: 0,
+            signed: 0,
             steps: 0,
             says: scaling::EXACT,
             exponent: 0,
@@ -74,6 +79,27 @@ pub fn remainder(format: Format, kind: Kind, x: u128, y: u128) -> Answer {
     Answer {
         quotient,
         ..Answer::new(FINISHED, value)
+    }
+}
+
+/// The same remainder: number, value and signed quotient, which is below zero where one operand is
+/// and the other is not.
+pub fn remquo(format: Format, kind: Kind, x: u128, y: u128) -> Answer {
+    let Answer {
+        number,
+        value,
+        quotient,
+        ..
+    } = remainder(format, kind, x, y);
+    let magnitude = quotient as i32;
+    let signed = if format.read(x).negative == format.read(y).negative {
+        magnitude
+    } else {
+        -magnitude
+    };
+    Answer {
+        signed,
+        ..Answer::new(number, value)
     }
 }
 
@@ -160,7 +186,7 @@ pub fn fold(kind: Kind, dividends: &[u64], divisor: u64) -> Result<Folded, u8> {
     }
     let answers: Vec<Answer> = dividends.iter().map(|&x| by_divisor(x)).collect();
     let byte = |answer: &Answer| match answer.number {
-        FINISHED => answer.quotient as u8,
+        FINISHED => (answer.quotient % SHOWN_MODULUS) as u8,
         _ => MARK,
     };
     let is_marked = |answer: &&Answer| answer.number != FINISHED;

@@ -168,7 +168,7 @@ fn number(file: &[u8], at: usize, bytes: usize) -> u64 {
 }
 
 /// So many bytes of a number, the lowest first.
-fn digits(number: u64, bytes: u32) -> impl Iterator<Item = u8> {
+pub(crate) fn digits(number: u64, bytes: u32) -> impl Iterator<Item = u8> {
     (0..bytes).map(move |i| (number >> (8 * i) & 0xFF) as u8)
 }
 

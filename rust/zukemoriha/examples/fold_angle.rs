@@ -4,7 +4,7 @@ use zukemoriha::{remainder_f64, Kind};
 
 fn main() {
     match remainder_f64(1e22, 360.0, Kind::Truncated) {
-        Ok(angle) => println!("{} degrees, quotient bits {}", angle.value, angle.quotient),
+        Ok(angle) => println!("{} degrees, quotient {}", angle.value, angle.quotient),
         Err(refusal) => println!("refused: {refusal}"),
     }
 }

@@ -16,6 +16,18 @@ crate::interchange::interchange_functions! {
     remainder: zk_rem16;
 
     /// ```
+    /// use zukemoriha::{binary16, Kind};
+    ///
+    /// // -5.5 by 2 leaves -1.5 with quotient -2, or 0.5 with quotient -3.
+    /// let truncated = binary16::remquo(0xC580, 0x4000, Kind::Truncated)?;
+    /// assert_eq!((truncated.value, truncated.quotient), (0xBE00, -2));
+    /// let nearest = binary16::remquo(0xC580, 0x4000, Kind::Nearest)?;
+    /// assert_eq!((nearest.value, nearest.quotient), (0x3800, -3));
+    /// # Ok::<(), zukemoriha::Refusal>(())
+    /// ```
+    remquo: zk_remquo16;
+
+    /// ```
     /// use zukemoriha::{binary16, Rounding};
     ///
     /// // Three times the smallest denormal, halved: the tie goes to the even neighbour.

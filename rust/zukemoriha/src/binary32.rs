@@ -1,7 +1,7 @@
 //! IEEE 754 binary32 (single precision): an operand is its pattern, a `u32`.
 //!
-//! [`remainder_f32`](crate::remainder_f32), [`scale_f32`](crate::scale_f32) and
-//! [`split_f32`](crate::split_f32) are the same on `f32`.
+//! [`remainder_f32`](crate::remainder_f32), [`remquo_f32`](crate::remquo_f32),
+//! [`scale_f32`](crate::scale_f32) and [`split_f32`](crate::split_f32) are the same on `f32`.
 
 crate::interchange::interchange_functions! {
     u32;
@@ -17,6 +17,18 @@ crate::interchange::interchange_functions! {
     /// # Ok::<(), zukemoriha::Refusal>(())
     /// ```
     remainder: zk_rem32;
+
+    /// ```
+    /// use zukemoriha::{binary32, Kind};
+    ///
+    /// // -5.5 by 2 leaves -1.5 with quotient -2, or 0.5 with quotient -3.
+    /// let truncated = binary32::remquo(0xC0B0_0000, 0x4000_0000, Kind::Truncated)?;
+    /// assert_eq!((truncated.value, truncated.quotient), (0xBFC0_0000, -2));
+    /// let nearest = binary32::remquo(0xC0B0_0000, 0x4000_0000, Kind::Nearest)?;
+    /// assert_eq!((nearest.value, nearest.quotient), (0x3F00_0000, -3));
+    /// # Ok::<(), zukemoriha::Refusal>(())
+    /// ```
+    remquo: zk_remquo32;
 
     /// ```
     /// use zukemoriha::{binary32, Rounding};

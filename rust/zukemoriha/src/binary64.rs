@@ -1,7 +1,8 @@
 //! IEEE 754 binary64 (double precision): an operand is its pattern, a `u64`.
 //!
-//! [`remainder_f64`](crate::remainder_f64), [`scale_f64`](crate::scale_f64),
-//! [`split_f64`](crate::split_f64) and [`fold_f64`](crate::fold_f64) are the same on `f64`.
+//! [`remainder_f64`](crate::remainder_f64), [`remquo_f64`](crate::remquo_f64),
+//! [`scale_f64`](crate::scale_f64), [`split_f64`](crate::split_f64) and
+//! [`fold_f64`](crate::fold_f64) are the same on `f64`.
 
 use crate::numbers::finished;
 use crate::{raw, Kind, Refusal};
@@ -21,6 +22,19 @@ crate::interchange::interchange_functions! {
     /// # Ok::<(), zukemoriha::Refusal>(())
     /// ```
     remainder: zk_rem64;
+
+    /// ```
+    /// use zukemoriha::{binary64, Kind};
+    ///
+    /// // -5.5 by 2 leaves -1.5 with quotient -2, or 0.5 with quotient -3.
+    /// let (x, y) = (0xC016_0000_0000_0000, 0x4000_0000_0000_0000);
+    /// let truncated = binary64::remquo(x, y, Kind::Truncated)?;
+    /// assert_eq!((truncated.value, truncated.quotient), (0xBFF8_0000_0000_0000, -2));
+    /// let nearest = binary64::remquo(x, y, Kind::Nearest)?;
+    /// assert_eq!((nearest.value, nearest.quotient), (0x3FE0_0000_0000_0000, -3));
+    /// # Ok::<(), zukemoriha::Refusal>(())
+    /// ```
+    remquo: zk_remquo64;
 
     /// ```
     /// use zukemoriha::{binary64, Rounding};
@@ -50,7 +64,7 @@ pub const MARK: u8 = 255;
 pub const HOUSE_NAN: u64 = 0x7FF8_0000_0000_0000;
 
 /// Folds a list: `results` and `quotients` get, place by place, the remainder of the dividend by
-/// `divisor` and its quotient bits.
+/// `divisor` and the quotient's magnitude modulo 8.
 ///
 /// A place whose dividend is NaN or infinite gets [`HOUSE_NAN`] and [`MARK`] instead. Returned is
 /// how many places are marked so.

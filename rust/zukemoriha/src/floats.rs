@@ -3,12 +3,12 @@
 use core::mem::align_of;
 use core::slice;
 
-use crate::{binary32, binary64, Kind, Refusal, Remainder, Scaled, Split};
+use crate::{binary32, binary64, Kind, Refusal, Remainder, Remquo, Scaled, Split};
 
-/// The remainder of `x` by `y`, exact, with three bits of the quotient.
+/// The remainder of `x` by `y`, exact, with the low 31 bits of the quotient's magnitude.
 ///
 /// A zero result has the sign of `x`. By an infinite `y` a finite `x` is returned as it is, with
-/// quotient bits 0.
+/// quotient 0.
 ///
 /// # Errors
 ///
@@ -32,10 +32,10 @@ pub fn remainder_f32(x: f32, y: f32, kind: Kind) -> Result<Remainder<f32>, Refus
     binary32::remainder(x.to_bits(), y.to_bits(), kind).map(|r| r.map(f32::from_bits))
 }
 
-/// The remainder of `x` by `y`, exact, with three bits of the quotient.
+/// The remainder of `x` by `y`, exact, with the low 31 bits of the quotient's magnitude.
 ///
 /// A zero result has the sign of `x`. By an infinite `y` a finite `x` is returned as it is, with
-/// quotient bits 0.
+/// quotient 0.
 ///
 /// # Errors
 ///
@@ -51,13 +51,67 @@ pub fn remainder_f32(x: f32, y: f32, kind: Kind) -> Result<Remainder<f32>, Refus
 /// use zukemoriha::{remainder_f64, Kind, Refusal};
 ///
 /// let angle = remainder_f64(1e22, 360.0, Kind::Truncated)?;
-/// assert_eq!((angle.value, angle.quotient), (280.0, 1));
+/// assert_eq!((angle.value, angle.quotient), (280.0, 1_177_492_593));
 ///
 /// assert_eq!(remainder_f64(f64::INFINITY, 360.0, Kind::Truncated), Err(Refusal::Infinite));
 /// # Ok::<(), Refusal>(())
 /// ```
 pub fn remainder_f64(x: f64, y: f64, kind: Kind) -> Result<Remainder<f64>, Refusal> {
     binary64::remainder(x.to_bits(), y.to_bits(), kind).map(|r| r.map(f64::from_bits))
+}
+
+/// The remainder of `x` by `y`, exact, with the low 31 bits of the quotient's magnitude and the
+/// sign of `x / y`: below zero where just one operand is negative.
+///
+/// With [`Kind::Nearest`] it is C's `remquof`, with 31 bits of the quotient where C asks for
+/// three; what is a NaN there is refused. The value is that of [`remainder_f32`], and so is the
+/// quotient's magnitude, which is 0 by an infinite `y`.
+///
+/// # Errors
+///
+/// Those of [`remainder_f32`].
+///
+/// # Examples
+///
+/// ```
+/// use zukemoriha::{remquo_f32, Kind};
+///
+/// let from_the_nearest_turn = remquo_f32(-725.5, 360.0, Kind::Nearest)?;
+/// assert_eq!(from_the_nearest_turn.value, -5.5);
+/// assert_eq!(from_the_nearest_turn.quotient, -2);
+/// # Ok::<(), zukemoriha::Refusal>(())
+/// ```
+pub fn remquo_f32(x: f32, y: f32, kind: Kind) -> Result<Remquo<f32>, Refusal> {
+    binary32::remquo(x.to_bits(), y.to_bits(), kind).map(|r| r.map(f32::from_bits))
+}
+
+/// The remainder of `x` by `y`, exact, with the low 31 bits of the quotient's magnitude and the
+/// sign of `x / y`: below zero where just one operand is negative.
+///
+/// With [`Kind::Nearest`] it is C's `remquo`, with 31 bits of the quotient where C asks for three;
+/// what is a NaN there is refused. The value is that of [`remainder_f64`], and so is the
+/// quotient's magnitude, which is 0 by an infinite `y`.
+///
+/// # Errors
+///
+/// Those of [`remainder_f64`].
+///
+/// # Examples
+///
+/// ```
+/// use zukemoriha::{remquo_f64, Kind, Refusal};
+///
+/// // 5.5 is three times 2 less a half; 2^31 - 1 is the largest quotient.
+/// let left = remquo_f64(5.5, -2.0, Kind::Nearest)?;
+/// assert_eq!((left.value, left.quotient), (-0.5, -3));
+/// assert_eq!(remquo_f64(2_147_483_647.0, 1.0, Kind::Nearest)?.quotient, i32::MAX);
+/// assert_eq!(remquo_f64(2_147_483_648.0, 1.0, Kind::Nearest)?.quotient, 0);
+///
+/// assert_eq!(remquo_f64(1.0, 0.0, Kind::Nearest), Err(Refusal::ZeroDivisor));
+/// # Ok::<(), Refusal>(())
+/// ```
+pub fn remquo_f64(x: f64, y: f64, kind: Kind) -> Result<Remquo<f64>, Refusal> {
+    binary64::remquo(x.to_bits(), y.to_bits(), kind).map(|r| r.map(f64::from_bits))
 }
 
 /// `x` times two to the `power`, rounded once, ties to even: C's `ldexpf`.
@@ -156,7 +210,7 @@ pub fn split_f64(x: f64) -> Result<Split<f64>, Refusal> {
 }
 
 /// Folds a list: `results` and `quotients` get, place by place, the remainder of the dividend by
-/// `divisor` and its quotient bits.
+/// `divisor` and the quotient's magnitude modulo 8.
 ///
 /// A place whose dividend is NaN or infinite gets a NaN, the one with the pattern
 /// [`HOUSE_NAN`](binary64::HOUSE_NAN), and the byte [`MARK`](binary64::MARK) instead. Returned is

@@ -6,15 +6,17 @@ macro_rules! interchange_functions {
         $pattern:ty;
         $(#[$remainder_example:meta])*
         remainder: $remainder:ident;
+        $(#[$remquo_example:meta])*
+        remquo: $remquo:ident;
         $(#[$scale_example:meta])*
         scale: $scale:ident;
         $(#[$split_example:meta])*
         split: $split:ident;
     ) => {
-        /// The remainder of `x` by `y`, exact, with three bits of the quotient.
+        /// The remainder of `x` by `y`, exact, with the low 31 bits of the quotient's magnitude.
         ///
         /// A zero result has the sign of `x`. By an infinite `y` a finite `x` is returned as it
-        /// is, with quotient bits 0.
+        /// is, with quotient 0.
         ///
         /// # Errors
         ///
@@ -39,6 +41,34 @@ macro_rules! interchange_functions {
             };
             $crate::numbers::finished(number)?;
             Ok($crate::Remainder { value, quotient })
+        }
+
+        /// The remainder of `x` by `y`, exact, with the low 31 bits of the quotient's magnitude and
+        /// the sign of `x / y`: below zero where just one operand is negative.
+        ///
+        /// With [`Kind::Nearest`](crate::Kind::Nearest) it is C's `remquo`, with 31 bits of the
+        /// quotient where C asks for three; what is a NaN there is refused. The value is that of
+        /// [`remainder`], and so is the quotient's magnitude, which is 0 by an infinite `y`.
+        ///
+        /// # Errors
+        ///
+        /// Those of [`remainder`].
+        ///
+        /// # Examples
+        ///
+        $(#[$remquo_example])*
+        pub fn remquo(
+            x: $pattern,
+            y: $pattern,
+            kind: $crate::Kind,
+        ) -> Result<$crate::Remquo<$pattern>, $crate::Refusal> {
+            let (mut value, mut quotient) = (0, 0);
+            // SAFETY: both pointers are to places of their own, of the types that are written.
+            let number = unsafe {
+                $crate::raw::$remquo(x, y, kind as u32, &mut value, &mut quotient)
+            };
+            $crate::numbers::finished(number)?;
+            Ok($crate::Remquo { value, quotient })
         }
 
         /// `x` times two to the `power`, rounded once, ties to even.

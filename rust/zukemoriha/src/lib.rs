@@ -1,9 +1,10 @@
 //! Exact floating-point remainders, computed on bit patterns in whole numbers, and proved.
 //!
 //! The truncated remainder (C's `fmod`) and the nearest one (IEEE 754's `remainder`), with the
-//! three low bits of the quotient; the processor's partial step (FPREM, FPREM1) and runs of it;
-//! scaling by a power of two; splitting into significand and exponent; folding of lists; stem
-//! files of a log scanner, read and written, and the folding of their points.
+//! low 31 bits of the quotient, its magnitude or with its sign (C's `remquo`); the processor's
+//! partial step (FPREM, FPREM1) and runs of it; scaling by a power of two; splitting into
+//! significand and exponent; folding of lists; stem files of a log scanner, read and written, and
+//! the folding of their points.
 //!
 //! ```
 //! use zukemoriha::{remainder_f64, Kind};
@@ -11,7 +12,7 @@
 //! // An angle in degrees, folded onto one turn.
 //! let angle = remainder_f64(1e22, 360.0, Kind::Truncated)?;
 //! assert_eq!(angle.value, 280.0);
-//! assert_eq!(angle.quotient, 1); // the whole turns, modulo 8
+//! assert_eq!(angle.quotient, 1_177_492_593); // the whole turns, modulo 2^31
 //! # Ok::<(), zukemoriha::Refusal>(())
 //! ```
 //!
@@ -31,8 +32,8 @@
 //!
 //! | Operands | Functions |
 //! |---|---|
-//! | `f32` | [`remainder_f32`], [`scale_f32`], [`split_f32`] |
-//! | `f64` | [`remainder_f64`], [`scale_f64`], [`split_f64`], [`fold_f64`] |
+//! | `f32` | [`remainder_f32`], [`remquo_f32`], [`scale_f32`], [`split_f32`] |
+//! | `f64` | [`remainder_f64`], [`remquo_f64`], [`scale_f64`], [`split_f64`], [`fold_f64`] |
 //! | patterns of IEEE 754's interchange formats | [`binary16`], [`binary32`], [`binary64`] |
 //! | patterns of the 80-bit x87 format | [`x87`], on operands of type [`X87`] |
 //! | bytes of a stem file | [`Stem::open`], [`Gauge::fold`], [`Stem::write`], in [`stem`] |
@@ -42,8 +43,11 @@
 //! The remainder of `x` by `y` is `x - Q * y`, where the magnitude of `Q` is that of `x / y`, cut
 //! or rounded to a whole number as the [`Kind`] says, and its sign is that of `x / y`. A zero
 //! result has the sign of `x`. By an infinite `y` a finite `x` is returned, an [`X87`] in its
-//! [ordinary pattern](X87#the-ordinary-pattern), with quotient bits 0. Quotient bits are the
-//! quotient's magnitude modulo 8.
+//! [ordinary pattern](X87#the-ordinary-pattern), with quotient 0.
+//!
+//! The quotient that is told is the magnitude of `Q` modulo 2^31 ([`QUOTIENT_MODULUS`]), its low
+//! 31 bits, and in the functions named `remquo` it has the sign of `Q`. Where one byte shows it, in
+//! a folded list and as the octant of a [`Block`], it is the magnitude modulo 8.
 //!
 //! # The numbers
 //!
@@ -60,7 +64,7 @@
 //! | 6 | [`Refusal::BadSize`] | a step size outside 32 to 63 |
 //! | 7 | [`Answer::Spent`] | a run's budget is spent |
 //! | 8 | [`Refusal::ZeroSplit`] | a zero is split |
-//! | 9 | [`Refusal::BadLength`] | lists of unequal length, or a block that is not 16 bytes |
+//! | 9 | [`Refusal::BadLength`] | lists of unequal length, or a block that is not 20 bytes |
 //! | 10 | [`Refusal::StemMark`] | a stem file does not begin with STM |
 //! | 11 | [`Refusal::StemVersion`] | the version is not 1 |
 //! | 12 | [`Refusal::StemKind`] | the kind is neither 0 nor 1 |
@@ -110,9 +114,10 @@ pub mod binary64;
 pub mod stem;
 pub mod x87;
 
-pub use answers::{Block, Remainder, Scaled, Split};
+pub use answers::{Block, Remainder, Remquo, Scaled, Split, QUOTIENT_MODULUS};
 pub use floats::{
-    fold_f64, remainder_f32, remainder_f64, scale_f32, scale_f64, split_f32, split_f64,
+    fold_f64, remainder_f32, remainder_f64, remquo_f32, remquo_f64, scale_f32, scale_f64,
+    split_f32, split_f64,
 };
 pub use numbers::{Answer, Kind, Refusal, Rounding};
 pub use operand::X87;

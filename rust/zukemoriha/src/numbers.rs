@@ -87,7 +87,7 @@ pub enum Refusal {
     BadSize = 6,
     /// A zero was to be split.
     ZeroSplit = 8,
-    /// Lists of unequal length, or a block that is not 16 bytes long.
+    /// Lists of unequal length, or a block that is not 20 bytes long.
     BadLength = 9,
     /// A stem file does not begin with the letters STM.
     StemMark = 10,
@@ -141,7 +141,7 @@ impl fmt::Display for Refusal {
             Refusal::ZeroDivisor => "the divisor is zero",
             Refusal::BadSize => "the step size is not from 32 to 63",
             Refusal::ZeroSplit => "a zero was to be split",
-            Refusal::BadLength => "the lists are of unequal length, or the block is not 16 bytes",
+            Refusal::BadLength => "the lists are of unequal length, or the block is not 20 bytes",
             Refusal::StemMark => "the stem file does not begin with STM",
             Refusal::StemVersion => "the version of the stem file is not 1",
             Refusal::StemKind => "the gauge is neither a turn nor a roller",

@@ -19,6 +19,20 @@ extern "C" {
         quotient: *mut u32,
     ) -> u8;
 
+    pub fn zk_remquo16(x: u16, y: u16, kind: u32, value: *mut u16, quotient: *mut i32) -> u8;
+    pub fn zk_remquo32(x: u32, y: u32, kind: u32, value: *mut u32, quotient: *mut i32) -> u8;
+    pub fn zk_remquo64(x: u64, y: u64, kind: u32, value: *mut u64, quotient: *mut i32) -> u8;
+    pub fn zk_remquo80(
+        x: u64,
+        xw: u16,
+        y: u64,
+        yw: u16,
+        kind: u32,
+        value: *mut u64,
+        valuew: *mut u16,
+        quotient: *mut i32,
+    ) -> u8;
+
     pub fn zk_step80(
         x: u64,
         xw: u16,

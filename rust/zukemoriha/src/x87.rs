@@ -8,28 +8,28 @@
 //! manuals leave to the processor; here it is the caller's, from 32 to 63 ([`SIZES`]).
 //! `D` is the exponent of the leading one of `x` less that of `y`, and 0 for a zero `x`.
 //!
-//! - If `D` is below 64, the step finishes with the remainder and its quotient bits.
+//! - If `D` is below 64, the step finishes with the remainder and its quotient.
 //! - Otherwise it is partial. `QQ` is the magnitude of `x / y / 2^(D - n)`, cut in both kinds.
 //!   The quotient part `QQ * 2^(D - n)`, with the sign of `x / y`, times `y` is taken from `x`,
-//!   and the quotient bits are the part's magnitude modulo 8. A zero partial value is still
-//!   partial: the next step finishes.
+//!   and the quotient is the part's magnitude modulo 2^31. A zero partial value is still partial:
+//!   the next step finishes.
 //!
 //! Steps of one kind and of any sizes, taken until one finishes, end in what [`remainder`] gives,
-//! and their quotient bits add up, modulo 8, to its quotient bits. There are at most `D / 32` of
-//! them, rounded down, and one if `D` is below 64.
+//! and their quotients add up, modulo 2^31 ([`QUOTIENT_MODULUS`](crate::QUOTIENT_MODULUS)), to its
+//! quotient. There are at most `D / 32` of them, rounded down, and one if `D` is below 64.
 
 use core::ops::RangeInclusive;
 
 use crate::numbers::{finished, other_version, told};
-use crate::{raw, Answer, Block, Kind, Refusal, Remainder, Rounding, Scaled, Split, X87};
+use crate::{raw, Answer, Block, Kind, Refusal, Remainder, Remquo, Rounding, Scaled, Split, X87};
 
 /// The sizes that a step or a run takes.
 pub const SIZES: RangeInclusive<u32> = 32..=63;
 
-/// The remainder of `x` by `y`, exact, with three bits of the quotient.
+/// The remainder of `x` by `y`, exact, with the low 31 bits of the quotient's magnitude.
 ///
 /// A zero result has the sign of `x`. By an infinite `y` a finite `x` is returned, in its
-/// [ordinary pattern](X87#the-ordinary-pattern), with quotient bits 0.
+/// [ordinary pattern](X87#the-ordinary-pattern), with quotient 0.
 ///
 /// # Errors
 ///
@@ -50,7 +50,7 @@ pub const SIZES: RangeInclusive<u32> = 32..=63;
 ///
 /// let left = x87::remainder(two_to_65, three, Kind::Truncated)?;
 /// assert_eq!(left.value, X87 { significand: 1 << 63, word: 0x4000 }); // 2
-/// assert_eq!(left.quotient, 2);
+/// assert_eq!(left.quotient, 0x2AAA_AAAA); // of 0xAAAA_AAAA_AAAA_AAAA
 /// # Ok::<(), zukemoriha::Refusal>(())
 /// ```
 pub fn remainder(x: X87, y: X87, kind: Kind) -> Result<Remainder<X87>, Refusal> {
@@ -71,6 +71,50 @@ pub fn remainder(x: X87, y: X87, kind: Kind) -> Result<Remainder<X87>, Refusal> 
     finished(number)?;
     let value = X87 { significand, word };
     Ok(Remainder { value, quotient })
+}
+
+/// The remainder of `x` by `y`, exact, with the low 31 bits of the quotient's magnitude and the
+/// sign of `x / y`: below zero where just one operand is negative.
+///
+/// With [`Kind::Nearest`] it is C's `remquol`, with 31 bits of the quotient where C asks for
+/// three; what is a NaN there is refused. The value is that of [`remainder`], and so is the
+/// quotient's magnitude, which is 0 by an infinite `y`.
+///
+/// # Errors
+///
+/// Those of [`remainder`].
+///
+/// # Examples
+///
+/// ```
+/// use zukemoriha::{x87, Kind, X87};
+///
+/// let two_to_65 = X87 { significand: 1 << 63, word: 0x3FFF + 65 };
+/// let minus_three = X87 { significand: 3 << 62, word: 0xC000 };
+///
+/// let left = x87::remquo(two_to_65, minus_three, Kind::Nearest)?;
+/// assert_eq!(left.value, X87 { significand: 1 << 63, word: 0xBFFF }); // -1
+/// assert_eq!(left.quotient, -0x2AAA_AAAB); // of -0xAAAA_AAAA_AAAA_AAAB
+/// # Ok::<(), zukemoriha::Refusal>(())
+/// ```
+pub fn remquo(x: X87, y: X87, kind: Kind) -> Result<Remquo<X87>, Refusal> {
+    let (mut significand, mut word, mut quotient) = (0, 0, 0);
+    // SAFETY: the three pointers are to places of their own, of the types that are written.
+    let number = unsafe {
+        raw::zk_remquo80(
+            x.significand,
+            x.word,
+            y.significand,
+            y.word,
+            kind as u32,
+            &mut significand,
+            &mut word,
+            &mut quotient,
+        )
+    };
+    finished(number)?;
+    let value = X87 { significand, word };
+    Ok(Remquo { value, quotient })
 }
 
 /// `x` times two to the `power`, rounded once, ties to even.
@@ -173,19 +217,20 @@ pub fn split(x: X87) -> Result<Split<X87>, Refusal> {
 ///
 /// # Examples
 ///
-/// A loop of steps. The octant is in the sum of the quotient bits, not in the last step's alone.
+/// A loop of steps. The quotient, and with it the octant, is in the sum of the steps' quotients,
+/// not in the last one's alone.
 ///
 /// ```
-/// use zukemoriha::{x87, Answer, Kind, X87};
+/// use zukemoriha::{x87, Answer, Kind, QUOTIENT_MODULUS, X87};
 ///
 /// let mut x = X87 { significand: 1 << 63, word: 0x3FFF + 65 }; // 2^65
 /// let three = X87 { significand: 3 << 62, word: 0x4000 };
 ///
-/// let (mut octant, mut steps) = (0, 0);
+/// let (mut quotient, mut steps) = (0, 0);
 /// loop {
 ///     let step = x87::step(x, three, 63, Kind::Truncated)?;
 ///     x = step.value;
-///     octant = (octant + step.quotient) % 8;
+///     quotient = (quotient + step.quotient) % QUOTIENT_MODULUS;
 ///     steps += step.steps;
 ///     if step.answer == Answer::Finished {
 ///         assert_eq!(step.quotient, 0);
@@ -193,7 +238,7 @@ pub fn split(x: X87) -> Result<Split<X87>, Refusal> {
 ///     }
 /// }
 /// assert_eq!(x, X87 { significand: 1 << 63, word: 0x4000 }); // 2
-/// assert_eq!((octant, steps), (2, 2));
+/// assert_eq!((quotient, quotient % 8, steps), (0x2AAA_AAAA, 2, 2));
 /// # Ok::<(), zukemoriha::Refusal>(())
 /// ```
 pub fn step(x: X87, y: X87, size: u32, kind: Kind) -> Result<Block, Refusal> {
@@ -205,8 +250,8 @@ pub fn step(x: X87, y: X87, size: u32, kind: Kind) -> Result<Block, Refusal> {
 /// [Steps](self#steps) of one size, until one finishes or the budget is spent.
 ///
 /// The answer is [`Finished`](Answer::Finished) or [`Spent`](Answer::Spent). A run that has spent
-/// its budget may be continued from its value: steps and quotient bits are then to be added, the
-/// bits modulo 8.
+/// its budget may be continued from its value: steps and quotients are then to be added, the
+/// quotients modulo 2^31, [`QUOTIENT_MODULUS`](crate::QUOTIENT_MODULUS).
 ///
 /// # Errors
 ///
@@ -221,7 +266,8 @@ pub fn step(x: X87, y: X87, size: u32, kind: Kind) -> Result<Block, Refusal> {
 /// let three = X87 { significand: 3 << 62, word: 0x4000 };
 ///
 /// let run = x87::run(two_to_65, three, 63, Kind::Truncated, 1)?;
-/// assert_eq!((run.answer, run.steps, run.quotient), (Answer::Spent, 1, 2));
+/// assert_eq!((run.answer, run.steps), (Answer::Spent, 1));
+/// assert_eq!((run.quotient, run.octant), (0x2AAA_AAAA, 2));
 ///
 /// let rest = x87::run(run.value, three, 63, Kind::Truncated, u32::MAX)?;
 /// assert_eq!((rest.answer, rest.steps, rest.quotient), (Answer::Finished, 1, 0));
@@ -234,7 +280,7 @@ pub fn run(x: X87, y: X87, size: u32, kind: Kind, budget: u32) -> Result<Block, 
     Ok(written(&bytes))
 }
 
-/// [`step`] into a lent block, as a host in C has it: the [16 bytes](Block) are written as they
+/// [`step`] into a lent block, as a host in C has it: the [20 bytes](Block) are written as they
 /// are, and the answer is returned too.
 ///
 /// # Errors
@@ -253,7 +299,8 @@ pub fn run(x: X87, y: X87, size: u32, kind: Kind, budget: u32) -> Result<Block, 
 ///
 /// let answer = x87::step_into(two_to_65, three, 63, Kind::Truncated, &mut block)?;
 /// assert_eq!(answer, Answer::Partial);
-/// assert_eq!(block, [0, 0, 0, 0, 0, 0, 0, 0x80, 0x00, 0x40, 1, 2, 1, 0, 0, 0]);
+/// assert_eq!(block[..10], [0, 0, 0, 0, 0, 0, 0, 0x80, 0x00, 0x40]); // 2
+/// assert_eq!(block[10..], [1, 2, 1, 0, 0, 0, 0xAA, 0xAA, 0xAA, 0x2A]);
 ///
 /// let refused = x87::step_into(two_to_65, three, 63, Kind::Truncated, &mut block[1..]);
 /// assert_eq!(refused, Err(Refusal::BadLength));
@@ -300,7 +347,8 @@ pub fn step_into(
 ///
 /// let answer = x87::run_into(two_to_65, three, 63, Kind::Truncated, 10, &mut block)?;
 /// assert_eq!(answer, Answer::Finished);
-/// assert_eq!(block, [0, 0, 0, 0, 0, 0, 0, 0x80, 0x00, 0x40, 0, 2, 2, 0, 0, 0]);
+/// assert_eq!(block[..10], [0, 0, 0, 0, 0, 0, 0, 0x80, 0x00, 0x40]); // 2
+/// assert_eq!(block[10..], [0, 2, 2, 0, 0, 0, 0xAA, 0xAA, 0xAA, 0x2A]);
 /// # Ok::<(), zukemoriha::Refusal>(())
 /// ```
 pub fn run_into(

@@ -1,7 +1,11 @@
 //! What is lent: a refused call leaves it as it was, and every length is taken or refused.
 
+#[allow(dead_code)]
+#[path = "../src/raw.rs"]
+mod raw;
+
 use zukemoriha::binary64::{self, HOUSE_NAN, MARK};
-use zukemoriha::{fold_f64, x87, Answer, Block, Kind, Refusal, X87};
+use zukemoriha::{fold_f64, x87, Answer, Block, Kind, Refusal, QUOTIENT_MODULUS, X87};
 
 const KINDS: [Kind; 2] = [Kind::Truncated, Kind::Nearest];
 /// A byte that no call here writes everywhere.
@@ -67,6 +71,7 @@ fn the_lent_block_holds_what_the_other_form_returns() {
                 let step = x87::step(x, y, size, kind).unwrap();
                 assert_eq!(Block::from_bytes(&block), Some(step));
                 assert_eq!((step.answer, step.steps), (answer, 1));
+                assert_eq!(u32::from(step.octant), step.quotient % 8);
 
                 for budget in 0..3 {
                     let mut block = [OLD; Block::LENGTH];
@@ -74,8 +79,37 @@ fn the_lent_block_holds_what_the_other_form_returns() {
                     let run = x87::run(x, y, size, kind, budget).unwrap();
                     assert_eq!(Block::from_bytes(&block), Some(run));
                     assert_eq!(run.answer, answer);
+                    assert_eq!(u32::from(run.octant), run.quotient % 8);
                 }
             }
+        }
+    }
+}
+
+/// Each of them: of 2^65 by 3, which is partial, of 2^31 - 1 by 1 and of 2^31 + 258 by -1.
+#[test]
+fn a_block_has_twenty_bytes() {
+    let [one, minus_one] = [0x3FFF, 0xBFFF].map(|word| number(1 << 63, word));
+    let most = number(u64::MAX << 33, 0x3FFF + 30);
+    let more = number(0x8000_0102 << 32, 0x3FFF + 31);
+    for (x, y, value, rest) in [
+        (
+            TWO_TO_65,
+            THREE,
+            TWO,
+            [1, 2, 1, 0, 0, 0, 0xAA, 0xAA, 0xAA, 0x2A],
+        ),
+        (most, one, ZERO, [0, 7, 1, 0, 0, 0, 0xFF, 0xFF, 0xFF, 0x7F]),
+        (more, minus_one, ZERO, [0, 2, 1, 0, 0, 0, 2, 1, 0, 0]),
+    ] {
+        for kind in KINDS {
+            let mut block = [OLD; Block::LENGTH];
+            x87::step_into(x, y, 63, kind, &mut block).unwrap();
+            assert_eq!(block[..], [value.to_bytes(), rest].concat());
+            let mut block = [OLD; Block::LENGTH];
+            x87::run_into(x, y, 63, kind, 1, &mut block).unwrap();
+            assert_eq!(block[..10], value.to_bytes());
+            assert_eq!((block[10], &block[11..]), (7 * rest[0], &rest[1..]));
         }
     }
 }
@@ -94,14 +128,71 @@ fn a_long_run_may_be_stopped_and_continued() {
         let rest = x87::run(first.value, y, 32, kind, whole.steps - 300).unwrap();
         assert_eq!((rest.answer, rest.value), (whole.answer, whole.value));
         assert_eq!(first.steps + rest.steps, whole.steps);
-        assert_eq!((first.quotient + rest.quotient) % 8, whole.quotient);
+        let added = (first.quotient + rest.quotient) % QUOTIENT_MODULUS;
+        assert_eq!(added, whole.quotient);
 
         let once = x87::remainder(x, y, kind).unwrap();
-        assert_eq!(
-            (once.value, once.quotient),
-            (whole.value, u32::from(whole.quotient))
-        );
+        assert_eq!((once.value, once.quotient), (whole.value, whole.quotient));
     }
+}
+
+/// By the archive's own functions: the safe ones are lent nothing.
+#[test]
+fn a_refused_remainder_leaves_its_places_as_they_were() {
+    // A number, a NaN, an infinity and a zero of each format.
+    let refused = [(1, 0, 3), (0, 1, 3), (1, 1, 3), (1, 3, 3), (2, 1, 3)];
+    let refused = refused.into_iter().chain([(2, 0, 4), (2, 2, 4), (2, 3, 4)]);
+    let refused = refused.chain([(0, 3, 5), (3, 3, 5)]);
+    for ((x, y, number), kind) in refused.flat_map(|case| [0, 1, 7].map(|kind| (case, kind))) {
+        macro_rules! leaves {
+            ($patterns:expr, $remainder:ident, $remquo:ident) => {{
+                let (patterns, old) = ($patterns, (!$patterns[0], 0x5A5A_5A5A, -0x5A5A));
+                let (mut value, mut quotient, mut signed) = old;
+                let (x, y) = (patterns[x], patterns[y]);
+                // SAFETY: each pointer is to a place of its own, of the type that is written.
+                let told = unsafe {
+                    [
+                        raw::$remainder(x, y, kind, &mut value, &mut quotient),
+                        raw::$remquo(x, y, kind, &mut value, &mut signed),
+                    ]
+                };
+                assert_eq!(
+                    (told, value, quotient, signed),
+                    ([number; 2], old.0, old.1, old.2)
+                );
+            }};
+        }
+        leaves!([0x4580, 0x7E01, 0xFC00, 0x8000_u16], zk_rem16, zk_remquo16);
+        leaves!(
+            [0x40B0 << 16, 0x7F80_0001, 0xFF80 << 16, 1_u32 << 31],
+            zk_rem32,
+            zk_remquo32
+        );
+        leaves!(
+            [0x4016 << 48, 0x7FF0 << 48 | 1, 0xFFF0 << 48, 1_u64 << 63],
+            zk_rem64,
+            zk_remquo64
+        );
+        refused_80([THREE, NAN, INFINITY, ZERO], x, y, kind, number);
+    }
+    for (x, y) in [(0, 1), (1, 0), (1, 1), (2, 1), (1, 3)] {
+        refused_80([THREE, UNSUPPORTED, NAN, ZERO], x, y, 1, 2);
+    }
+}
+
+fn refused_80(patterns: [X87; 4], x: usize, y: usize, kind: u32, number: u8) {
+    let (x, y) = (patterns[x], patterns[y]);
+    let (x, xw, y, yw) = (x.significand, x.word, y.significand, y.word);
+    let old = (OLD_PATTERN, 0xA5A5, 0x5A5A_5A5A, -0x5A5A);
+    let (mut value, mut word, mut quotient, mut signed) = old;
+    // SAFETY: each pointer is to a place of its own, of the type that is written.
+    let told = unsafe {
+        [
+            raw::zk_rem80(x, xw, y, yw, kind, &mut value, &mut word, &mut quotient),
+            raw::zk_remquo80(x, xw, y, yw, kind, &mut value, &mut word, &mut signed),
+        ]
+    };
+    assert_eq!((told, (value, word, quotient, signed)), ([number; 2], old));
 }
 
 #[test]
@@ -167,7 +258,7 @@ fn a_fold_is_a_remainder_at_each_place() {
             assert_eq!(marked, Ok(2));
             for (i, &dividend) in x.iter().enumerate() {
                 let alone = match binary64::remainder(dividend, divisor, kind) {
-                    Ok(left) => (left.value, left.quotient as u8),
+                    Ok(left) => (left.value, (left.quotient % 8) as u8),
                     Err(_) => (HOUSE_NAN, MARK),
                 };
                 assert_eq!((results[i], quotients[i]), alone);

@@ -163,8 +163,9 @@ fn a_block_is_read_if_its_number_is_an_answer() {
     let block = |answer| Block {
         value: number(0x0807_0605_0403_0201, 0x0A09),
         answer,
-        quotient: 5,
+        octant: 5,
         steps: 0x0F0E_0D0C,
+        quotient: 0x1312_1110,
     };
     for number in 0..=u8::MAX {
         let expected = match number {
@@ -173,7 +174,9 @@ fn a_block_is_read_if_its_number_is_an_answer() {
             7 => Some(block(Answer::Spent)),
             _ => None,
         };
-        let bytes = [1, 2, 3, 4, 5, 6, 7, 8, 9, 10, number, 5, 12, 13, 14, 15];
+        let value = [1, 2, 3, 4, 5, 6, 7, 8, 9, 10];
+        let rest = [number, 5, 12, 13, 14, 15, 16, 17, 18, 19];
+        let bytes = [value, rest].concat().try_into().unwrap();
         assert_eq!(Block::from_bytes(&bytes), expected);
     }
 }
@@ -188,6 +191,11 @@ fn f32_functions_are_those_on_patterns() {
                     remainder_f32(float, f32::from_bits(y), kind)
                         .map(|left| (left.value.to_bits(), left.quotient)),
                     binary32::remainder(x, y, kind).map(|left| (left.value, left.quotient))
+                );
+                assert_eq!(
+                    remquo_f32(float, f32::from_bits(y), kind)
+                        .map(|left| (left.value.to_bits(), left.quotient)),
+                    binary32::remquo(x, y, kind).map(|left| (left.value, left.quotient))
                 );
             }
         }
@@ -214,6 +222,11 @@ fn f64_functions_are_those_on_patterns() {
                     remainder_f64(float, f64::from_bits(y), kind)
                         .map(|left| (left.value.to_bits(), left.quotient)),
                     binary64::remainder(x, y, kind).map(|left| (left.value, left.quotient))
+                );
+                assert_eq!(
+                    remquo_f64(float, f64::from_bits(y), kind)
+                        .map(|left| (left.value.to_bits(), left.quotient)),
+                    binary64::remquo(x, y, kind).map(|left| (left.value, left.quotient))
                 );
             }
         }
@@ -242,6 +255,117 @@ fn a_truncated_remainder_is_that_of_the_language() {
     }
 }
 
+/// What `remquo` tells is what `remainder` tells, with the sign of the quotient.
+fn is_signed<T>(
+    remquo: Result<Remquo<T>, Refusal>,
+    remainder: Result<Remainder<T>, Refusal>,
+    negative: bool,
+) -> bool
+where
+    T: PartialEq,
+{
+    match (remquo, remainder) {
+        (Ok(signed), Ok(left)) => {
+            let sign = if negative { -1 } else { 1 };
+            signed.value == left.value
+                && i64::from(signed.quotient) == sign * i64::from(left.quotient)
+        }
+        (Err(why), Err(other)) => why == other,
+        _ => false,
+    }
+}
+
+#[test]
+fn a_signed_quotient_is_the_magnitude_with_a_sign() {
+    for kind in KINDS {
+        for x in PATTERNS_32 {
+            for y in PATTERNS_32 {
+                let told = (
+                    binary32::remquo(x, y, kind),
+                    binary32::remainder(x, y, kind),
+                );
+                assert!(is_signed(told.0, told.1, (x ^ y) >> 31 == 1), "{x:X} {y:X}");
+                // their upper halves, with other last digits
+                let (x, y) = ((x >> 16) as u16, (y >> 16) as u16 ^ 3);
+                let told = (
+                    binary16::remquo(x, y, kind),
+                    binary16::remainder(x, y, kind),
+                );
+                assert!(is_signed(told.0, told.1, (x ^ y) >> 15 == 1), "{x:X} {y:X}");
+            }
+        }
+        for x in PATTERNS_64 {
+            for y in PATTERNS_64 {
+                let told = (
+                    binary64::remquo(x, y, kind),
+                    binary64::remainder(x, y, kind),
+                );
+                assert!(is_signed(told.0, told.1, (x ^ y) >> 63 == 1), "{x:X} {y:X}");
+                // the top 16 bits for a word
+                let [a, b] = [x, y].map(|bits| number(bits << 16 | 1 << 63, (bits >> 48) as u16));
+                let told = (x87::remquo(a, b, kind), x87::remainder(a, b, kind));
+                assert!(
+                    is_signed(told.0, told.1, (x ^ y) >> 63 == 1),
+                    "{a:X?} {b:X?}"
+                );
+                let unsupported = number(1, 1);
+                let told = x87::remquo(a, unsupported, kind);
+                assert_eq!(told, Err(Refusal::Unsupported));
+            }
+        }
+    }
+}
+
+/// Whole numbers by 1 and by -1, which are their own quotients: the ends of the range.
+#[test]
+fn quotients_have_31_bits() {
+    for (whole, quotient) in [
+        (0.0, 0),
+        (7.0, 7),
+        (8.0, 8),
+        (2_147_483_647.0, 2_147_483_647),
+        (2_147_483_648.0, 0),
+        (2_147_483_653.0, 5),
+        (4_294_967_295.0, 2_147_483_647),
+        (1_099_511_627_775.0, 2_147_483_647),
+        (9_007_199_254_740_991.0, 2_147_483_647),
+    ] {
+        for kind in KINDS {
+            let told = remainder_f64(whole, -1.0, kind).unwrap();
+            assert_eq!((told.value, told.quotient), (0.0, quotient as u32));
+            for (x, y, sign) in [
+                (1.0, 1.0, 1),
+                (1.0, -1.0, -1),
+                (-1.0, 1.0, -1),
+                (-1.0, -1.0, 1),
+            ] {
+                let told = remquo_f64(x * whole, y, kind).unwrap();
+                assert_eq!((told.value, told.quotient), (0.0, sign * quotient));
+            }
+            // half a divisor more is a tie: to the even quotient
+            if whole < 4e12 {
+                let told = remquo_f64(-(whole + 0.5), 1.0, kind).unwrap();
+                let up = kind == Kind::Nearest && quotient % 2 == 1;
+                let rounded = (quotient as u32 + u32::from(up)) % QUOTIENT_MODULUS;
+                assert_eq!(told.quotient, -(rounded as i32), "{whole}, {kind:?}");
+                assert_eq!(told.value, if up { 0.5 } else { -0.5 });
+            }
+        }
+    }
+}
+
+#[test]
+fn an_infinite_divisor_has_quotient_0() {
+    for x in [0.0, -0.0, 5e-324, -1.5, f64::MAX] {
+        for y in [f64::INFINITY, f64::NEG_INFINITY] {
+            for kind in KINDS {
+                let told = remquo_f64(x, y, kind).unwrap();
+                assert_eq!((told.value.to_bits(), told.quotient), (x.to_bits(), 0));
+            }
+        }
+    }
+}
+
 #[test]
 fn nan_operands_are_refused() {
     for pattern in [0x7FC0_0000, 0x7F80_0001, 0xFFFF_FFFF] {
@@ -249,6 +373,8 @@ fn nan_operands_are_refused() {
         for kind in KINDS {
             assert_eq!(remainder_f32(nan, 0.0, kind), Err(Refusal::Nan));
             assert_eq!(remainder_f32(f32::INFINITY, nan, kind), Err(Refusal::Nan));
+            assert_eq!(remquo_f32(nan, 0.0, kind), Err(Refusal::Nan));
+            assert_eq!(remquo_f32(f32::INFINITY, nan, kind), Err(Refusal::Nan));
         }
         assert_eq!(scale_f32(nan, 1), Err(Refusal::Nan));
         assert_eq!(split_f32(nan), Err(Refusal::Nan));
@@ -258,6 +384,8 @@ fn nan_operands_are_refused() {
         for kind in KINDS {
             assert_eq!(remainder_f64(nan, 0.0, kind), Err(Refusal::Nan));
             assert_eq!(remainder_f64(f64::INFINITY, nan, kind), Err(Refusal::Nan));
+            assert_eq!(remquo_f64(nan, 0.0, kind), Err(Refusal::Nan));
+            assert_eq!(remquo_f64(f64::INFINITY, nan, kind), Err(Refusal::Nan));
         }
         assert_eq!(scale_f64(nan, 1), Err(Refusal::Nan));
         assert_eq!(split_f64(nan), Err(Refusal::Nan));

@@ -1,4 +1,5 @@
-//! All pairs of binary16, both kinds, the library against the second implementation.
+//! All pairs of binary16, both kinds, with the quotient's magnitude and with its sign, the library
+//! against the second implementation.
 //!
 //!     half [FIRST [LAST]]    dividends from FIRST to LAST (0 to 65535), every divisor for each
 
@@ -27,8 +28,8 @@ fn main() -> ExitCode {
         }
     });
     println!(
-        "binary16, dividends {first} to {last}: {} pairs, both kinds, {} different",
-        comparison.answers / 2,
+        "binary16, dividends {first} to {last}: {} pairs, both kinds and remquo, {} different",
+        comparison.answers / 4,
         comparison.different
     );
     ExitCode::from(u8::from(comparison.different > 0))

@@ -9,10 +9,11 @@ use std::sync::atomic::{AtomicI64, Ordering};
 pub type Change<T> = fn(&mut T);
 
 /// One for each field of an answer.
-pub const CHANGES: [(&str, Change<Answer>); 6] = [
+pub const CHANGES: [(&str, Change<Answer>); 7] = [
     ("a bit of the value", |answer| answer.value ^= 1),
     ("the number", |answer| answer.number = 5),
-    ("the quotient", |answer| answer.quotient ^= 4),
+    ("the quotient", |answer| answer.quotient ^= 1 << 30),
+    ("the signed quotient", |answer| answer.signed -= 1),
     ("the steps", |answer| answer.steps += 1),
     ("what it says", |answer| answer.says ^= 2),
     ("the exponent", |answer| answer.exponent -= 1),

@@ -1,21 +1,35 @@
-//! The archive's own writer of stem files. It takes kinds and origins that the safe functions do not
-//! have, and is lent a place for the length, and lists that have to stay as they were.
+//! The archive's own functions: a writer of stem files, which takes kinds and origins that the safe
+//! functions do not have, and is lent a place for the length, and lists that have to stay as they
+//! were; and remainders, which take other kinds and are lent places for values and quotients.
 
-use compare::{lent_length, lent_room, Gauge, Implementation, MISWROTE};
+// each test needs a part
+#![allow(dead_code)]
 
-#[allow(dead_code)]
+use compare::{
+    lent_length, lent_places, lent_room, refused, remained, signed, Answer, Call, Format, Gauge,
+    Implementation, Kind, Library, MISWROTE,
+};
+
 #[path = "../../../zukemoriha/src/raw.rs"]
 mod raw;
 
 /// What lies before and behind a list.
 const BESIDE: u64 = 0xA5A5_A5A5_A5A5_A5A5;
 
-/// The library, with the archive's own writer.
+/// The library, with the archive's own remainders and its own writer.
 pub struct Archive;
 
 impl Implementation for Archive {
     fn name(&self) -> &'static str {
         "archive"
+    }
+
+    fn answer(&self, call: &Call) -> Answer {
+        match *call {
+            Call::Remainder(format, kind, x, y) => remainder(format, kind, x, y),
+            Call::Remquo(format, kind, x, y) => remquo(format, kind, x, y),
+            _ => Library.answer(call),
+        }
     }
 
     fn write(
@@ -51,5 +65,66 @@ impl Implementation for Archive {
             true => written,
             false => Err(MISWROTE),
         }
+    }
+}
+
+/// Every number but 0 is the nearest kind.
+fn number_of(kind: Kind, x: u128) -> u32 {
+    match kind {
+        Kind::Truncated => 0,
+        Kind::Nearest => x as u32 | 1,
+    }
+}
+
+/// Calls the archive's function for a format with the lent places.
+macro_rules! in_places {
+    ($format:ident, $kind:ident, $x:ident, $y:ident,
+     $zk16:ident, $zk32:ident, $zk64:ident, $zk80:ident) => {
+        lent_places($format, |places| {
+            let kind = number_of($kind, $x);
+            let [_, value, _, word, _, quotient, _] = places;
+            let (value, word, quotient): (*mut u64, *mut u64, *mut u64) = (value, word, quotient);
+            let (xw, yw) = (($x >> 64) as u16, ($y >> 64) as u16);
+            let (x, y) = ($x as u64, $y as u64);
+            // SAFETY: each pointer is to a place of its own, of eight bytes, at least as long as what
+            // is written there and aligned as well.
+            unsafe {
+                match $format {
+                    Format::Binary16 => {
+                        raw::$zk16(x as u16, y as u16, kind, value.cast(), quotient.cast())
+                    }
+                    Format::Binary32 => {
+                        raw::$zk32(x as u32, y as u32, kind, value.cast(), quotient.cast())
+                    }
+                    Format::Binary64 => raw::$zk64(x, y, kind, value, quotient.cast()),
+                    Format::X87 => {
+                        raw::$zk80(x, xw, y, yw, kind, value, word.cast(), quotient.cast())
+                    }
+                }
+            }
+        })
+    };
+}
+
+fn remainder(format: Format, kind: Kind, x: u128, y: u128) -> Answer {
+    match in_places!(format, kind, x, y, zk_rem16, zk_rem32, zk_rem64, zk_rem80) {
+        Ok((value, quotient)) => remained(value, 0, quotient),
+        Err(number) => refused(format, number),
+    }
+}
+
+fn remquo(format: Format, kind: Kind, x: u128, y: u128) -> Answer {
+    match in_places!(
+        format,
+        kind,
+        x,
+        y,
+        zk_remquo16,
+        zk_remquo32,
+        zk_remquo64,
+        zk_remquo80
+    ) {
+        Ok((value, quotient)) => signed(value, 0, quotient as i32),
+        Err(number) => refused(format, number),
     }
 }
