@@ -249,3 +249,7 @@ answer-upper r i h =
 pub answer-rest : (r : Remainder) → drop 16 (answerLine r) ≡ 32 ∷ (48 + shown (r .quotient)) ∷ 32 ∷ (48 + r .number) ∷ []
 unfolding answerLine
 answer-rest r = refl
+
+-- which has one digit for the quotient
+pub answer-digit : (r : Remainder) → shown (r .quotient) ≤ 9
+answer-digit r = omega arith
