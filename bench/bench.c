@@ -74,7 +74,7 @@ static uint64_t one_branch_free(uint64_t x, uint64_t y) {
     return value;
 }
 
-/* A whole list a call; fmod and FPREM give no quotient bits. */
+/* A whole list a call; fmod and FPREM give no quotients. */
 
 static void list_zukemoriha(const struct operands *o, struct answers *a) {
     size_t marked;
@@ -190,10 +190,26 @@ static void print_table(const char *title, const struct operands *o, timer *time
         printf("  %-18s %9.1f ns  %7.2f\n", peers[p].name, times[p][ROUNDS / 2], times[p][ROUNDS / 2] / times[0][ROUNDS / 2]);
 }
 
-/* Every peer against the library, each value; quotient bits where the peer gives them. */
+/* The quotients of the peers that give them, one a call. */
+static int quotients_agree(const struct operands *o) {
+    int i, wrong = 0;
+    for (i = 0; i < N; i++) {
+        uint64_t value;
+        uint32_t ours, branching, branch_free;
+        zk_rem64(o->x[i], o->y[i], ZK_TRUNCATED, &value, &ours);
+        shift_rem64_branching(o->x[i], o->y[i], &value, &branching);
+        shift_rem64_branch_free(o->x[i], o->y[i], &value, &branch_free);
+        if ((branching != ours || branch_free != ours) && !wrong++)
+            printf("a quotient differs at %016llX by %016llX: %lu and %lu, zukemoriha %lu\n", (unsigned long long)o->x[i],
+                   (unsigned long long)o->y[i], (unsigned long)branching, (unsigned long)branch_free, (unsigned long)ours);
+    }
+    return wrong == 0;
+}
+
+/* Every peer against the library, each value, and the bytes of a list where the peer gives them. */
 static int agree(const struct operands *o) {
     static struct answers ours, theirs;
-    int p, i, wrong = 0;
+    int p, i, wrong = !quotients_agree(o);
     list_zukemoriha(o, &ours);
     for (p = 0; p < PEERS; p++) {
         int quotients = peers[p].list != list_fmod && peers[p].list != list_fprem;

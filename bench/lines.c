@@ -1,7 +1,7 @@
 /*
  * The line program's job done the usual way: scanf, fmod, printf. `lines make N` writes N input lines with near gaps (D below 64),
- * the same ones each time; without arguments it answers standard input. Its quotient bits come from remquo and are those of the nearest
- * remainder, so only the value is the same as the line program's.
+ * the same ones each time; without arguments it answers standard input. Its three quotient bits come from remquo and are those of the
+ * nearest remainder, so only the value is the same as the line program's.
  */
 #include <inttypes.h>
 #include <math.h>

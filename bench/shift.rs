@@ -1,5 +1,5 @@
 // The straightforward peers: truncated binary64 remainders by shifting and subtracting, one bit at a time, with the same refusals and
-// quotient bits as the library's. Two of them, since what the compiler makes of the inner `if` decides the speed: one that branches on
+// quotients as the library's. Two of them, since what the compiler makes of the inner `if` decides the speed: one that branches on
 // every quotient bit, as a reader would write it, and one without a branch on the bits.
 // Built by `rustc -O --crate-type staticlib`, no crates.
 #![no_std]
@@ -14,6 +14,7 @@ fn panic(_: &PanicInfo) -> ! {
 const SIGN: u64 = 1 << 63;
 const INFINITY: u64 = 0x7FF << 52;
 const HOUSE_NAN: u64 = 0x7FF8 << 48;
+const QUOTIENT_MODULUS: u32 = 1 << 31;
 
 // a * 2^gap by b: the remainder and the low bits of the quotient.
 type Divide = fn(u64, u64, u32) -> (u64, u32);
@@ -99,7 +100,7 @@ fn remainder(x: u64, y: u64, divide: Divide) -> Result<(u64, u32), u8> {
     }
     let ((a, ex), (b, ey)) = (unpack(x), unpack(y));
     let (left, quotient) = divide(a, b, (ex - ey) as u32);
-    Ok((sign | pack(left, ey), quotient & 7))
+    Ok((sign | pack(left, ey), quotient % QUOTIENT_MODULUS))
 }
 
 #[inline(always)]
@@ -121,7 +122,7 @@ fn fold(x: &[u64], results: &mut [u64], quotients: &mut [u8], y: u64, divide: Di
         match remainder(x, y, divide) {
             Ok((v, q)) => {
                 *result = v;
-                *byte = q as u8;
+                *byte = (q % 8) as u8;
             }
             Err(_) => {
                 *result = HOUSE_NAN;

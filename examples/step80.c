@@ -1,9 +1,10 @@
 /*
- * Steps an 80-bit reading to its end, as a host with an x87 unit would with FPREM, and prints the octant.
+ * Steps an 80-bit reading to its end, as a host with an x87 unit would with FPREM, and prints the quotient and the octant.
  *
  *   step80 [X Y SIZE KIND]    X and Y as 20 hex digits, the sign-and-exponent word first; KIND 0 truncated, 1 nearest
  *
- * The octant is in the sum of the steps' quotient bits, not in the last step's alone: 2^65 by 3 in steps of size 63 shows the difference.
+ * Both are in the sum of the steps' quotient parts, not in the last step's alone: 2^65 by 3 in steps of size 63 shows the difference. Parts
+ * are told modulo 2^31, and so is their sum; the octant is the sum modulo 8.
  */
 #include "zukemoriha.h"
 
@@ -28,9 +29,9 @@ static int read_x87(const char *digits, struct x87 *x) {
     return 1;
 }
 
-static void print_octant(uint32_t sum, uint32_t last) {
-    printf("octant %u; the last step's flags show %u: C0 %d C3 %d C1 %d\n", (unsigned)sum, (unsigned)last, zk_c0(last), zk_c3(last),
-           zk_c1(last));
+static void print_quotient(uint32_t sum, uint8_t last) {
+    printf("quotient %lu, octant %u; the last step's flags show %u: C0 %d C3 %d C1 %d\n", (unsigned long)sum, (unsigned)(sum % 8), last,
+           zk_c0(last), zk_c3(last), zk_c1(last));
 }
 
 static int step_to_end(struct x87 x, struct x87 y, uint32_t size, uint32_t kind) {
@@ -47,12 +48,12 @@ static int step_to_end(struct x87 x, struct x87 y, uint32_t size, uint32_t kind)
         }
         x.significand = zk_block_significand(block);
         x.word = zk_block_word(block);
-        sum = (sum + zk_block_quotient(block)) % 8;
+        sum = (sum + zk_block_quotient(block)) % ZK_QUOTIENT_MODULUS;
         steps += zk_block_steps(block);
-        printf("step %u: %04X%016" PRIX64 " %s, quotient part %u\n", (unsigned)steps, x.word, x.significand,
-               number == ZK_PARTIAL ? "partial" : "finished", zk_block_quotient(block));
+        printf("step %u: %04X%016" PRIX64 " %s, quotient part %lu\n", (unsigned)steps, x.word, x.significand,
+               number == ZK_PARTIAL ? "partial" : "finished", (unsigned long)zk_block_quotient(block));
     } while (number == ZK_PARTIAL);
-    print_octant(sum, zk_block_quotient(block));
+    print_quotient(sum, zk_block_octant(block));
     return 0;
 }
 

@@ -62,6 +62,8 @@ struct reply {
     uint8_t number;
     struct pattern value;
     uint32_t quotient;
+    int32_t signed_quotient; /* remquo's, which gives no other */
+    uint8_t octant;          /* a block's */
     uint32_t steps;
     int says;
     int32_t exponent;
@@ -114,7 +116,7 @@ static inline struct pattern taken(int f, const struct room *value, const struct
 
 static inline struct reply call_rem(int f, struct pattern x, struct pattern y, uint32_t kind) {
     struct room value, word, quotient;
-    struct reply r = {0, {0, 0}, 0, 0, 0, 0, 0};
+    struct reply r = {0};
     void *v = lend(&value), *w = lend(&word), *q = lend(&quotient);
     int answered;
     if (f == BINARY16)
@@ -135,18 +137,55 @@ static inline struct reply call_rem(int f, struct pattern x, struct pattern y, u
     return r;
 }
 
+static inline struct reply call_remquo(int f, struct pattern x, struct pattern y, uint32_t kind) {
+    struct room value, word, quotient;
+    struct reply r = {0};
+    void *v = lend(&value), *w = lend(&word), *q = lend(&quotient);
+    int answered;
+    if (f == BINARY16)
+        r.number = zk_remquo16((uint16_t)x.bits, (uint16_t)y.bits, kind, (uint16_t *)v, (int32_t *)q);
+    else if (f == BINARY32)
+        r.number = zk_remquo32((uint32_t)x.bits, (uint32_t)y.bits, kind, (uint32_t *)v, (int32_t *)q);
+    else if (f == BINARY64)
+        r.number = zk_remquo64(x.bits, y.bits, kind, (uint64_t *)v, (int32_t *)q);
+    else
+        r.number = zk_remquo80(x.bits, x.word, y.bits, y.word, kind, (uint64_t *)v, (uint16_t *)w, (int32_t *)q);
+    answered = zk_is_answer(r.number);
+    if (answered) {
+        r.value = taken(f, &value, &word);
+        memcpy(&r.signed_quotient, q, sizeof r.signed_quotient);
+    }
+    r.touched = !kept(&value, answered ? (size_t)formats[f].width : 0) || !kept(&word, answered && f == X87 ? 2 : 0) ||
+                !kept(&quotient, answered ? 4 : 0);
+    return r;
+}
+
+/* A quotient's magnitude with the sign of x/y: wider than what remquo writes, so that 2^31, which it may not tell, is equal to nothing. */
+static inline int64_t with_sign(int f, struct pattern x, struct pattern y, uint32_t magnitude) {
+    return is_negative(f, x) != is_negative(f, y) ? -(int64_t)magnitude : (int64_t)magnitude;
+}
+
+/* Whether remquo gives what rem gives, with the sign of x/y. Where rem has refused, its quotient is 0 here. */
+static inline int agrees_with_rem(int f, struct pattern x, struct pattern y, struct reply remquo, struct reply rem) {
+    return remquo.number == rem.number && same(remquo.value, rem.value) && !remquo.touched &&
+           remquo.signed_quotient == with_sign(f, x, y, rem.quotient);
+}
+
 static inline struct reply of_block(uint8_t number, const struct room *block) {
     const uint8_t *b = block->is.bytes + BEFORE;
-    struct reply r = {number, {0, 0}, 0, 0, 0, 0, 0};
-    int answered = zk_is_answer(number);
+    struct reply r = {0};
+    int answered = zk_is_answer(number), wrong = 0;
+    r.number = number;
     if (answered) {
         r.value.bits = zk_block_significand(b);
         r.value.word = zk_block_word(b);
         r.quotient = zk_block_quotient(b);
+        r.octant = zk_block_octant(b);
         r.steps = zk_block_steps(b);
+        /* wrongly written: a number that is not the one returned, a quotient of 32 bits, a byte 11 that is not its octant */
+        wrong = zk_block_number(b) != number || r.quotient >= ZK_QUOTIENT_MODULUS || r.octant != r.quotient % 8;
     }
-    /* the number in the block is the one returned: a block that says otherwise is wrongly written */
-    r.touched = !kept(block, answered ? ZK_BLOCK_LENGTH : 0) || (answered && zk_block_number(b) != number);
+    r.touched = !kept(block, answered ? ZK_BLOCK_LENGTH : 0) || wrong;
     return r;
 }
 
@@ -164,7 +203,7 @@ static inline struct reply call_run(struct pattern x, struct pattern y, uint32_t
 
 static inline struct reply call_scale(int f, struct pattern x, int32_t power) {
     struct room value, word, says;
-    struct reply r = {0, {0, 0}, 0, 0, 0, 0, 0};
+    struct reply r = {0};
     void *v = lend(&value), *w = lend(&word), *s = lend(&says);
     int answered;
     if (f == BINARY16)
@@ -187,7 +226,7 @@ static inline struct reply call_scale(int f, struct pattern x, int32_t power) {
 
 static inline struct reply call_split(int f, struct pattern x) {
     struct room value, word, exponent;
-    struct reply r = {0, {0, 0}, 0, 0, 0, 0, 0};
+    struct reply r = {0};
     void *v = lend(&value), *w = lend(&word), *e = lend(&exponent);
     int answered;
     if (f == BINARY16)
@@ -240,7 +279,7 @@ static inline struct opened call_open(const uint8_t *file, size_t length) {
 /* The reading is lent with its value: on a refusal it still has to be there. */
 static inline struct reply call_stem_fold(uint32_t kind, uint64_t period, uint64_t origin, uint64_t reading) {
     struct room room;
-    struct reply r = {0, {0, 0}, 0, 0, 0, 0, 0};
+    struct reply r = {0};
     void *lent = lend(&room);
     memcpy(lent, &reading, sizeof reading);
     r.number = zk_stem_fold(kind, period, origin, (uint64_t *)lent);

@@ -54,16 +54,42 @@ while IFS='|' read -r command fault line; do
 done << 'ROWS'
 untouched   | rem32-infinite-dividend-before-nan         | ^number of a remainder, binary32
 untouched   | rem64-refusal-writes                       | ^memory after a remainder, binary64
+untouched   | remquo16-infinity-by-zero-is-five          | ^number of a remquo, binary16
+untouched   | remquo32-infinite-dividend-before-nan      | ^number of a remquo, binary32
+untouched   | remquo64-zero-divisor-is-infinite          | ^number of a remquo, binary64
+untouched   | remquo80-infinite-dividend-before-unsupported | ^number of a remquo, x87: 4
+untouched   | remquo16-refusal-writes-the-quotient       | ^memory after a remquo, binary16
+untouched   | remquo16-refusal-writes-the-value          | ^memory after a remquo, binary16
+untouched   | remquo32-refusal-writes-the-quotient       | ^memory after a remquo, binary32
+untouched   | remquo32-refusal-writes-the-value          | ^memory after a remquo, binary32
+untouched   | remquo64-refusal-writes-the-quotient       | ^memory after a remquo, binary64
+untouched   | remquo64-refusal-writes-the-value          | ^memory after a remquo, binary64
+untouched   | remquo80-refusal-writes-the-quotient       | ^memory after a remquo, x87
+untouched   | remquo80-refusal-writes-the-value          | ^memory after a remquo, x87
+untouched   | remquo80-refusal-writes-the-word           | ^memory after a remquo, x87
+untouched   | remquo32-writes-a-number-more              | ^memory after a remquo, binary32
+untouched   | step-block-of-16-bytes-taken               | ^number of a step,
+untouched   | run-block-of-16-bytes-taken                | ^number of a run,
+untouched   | run-block-of-16-bytes-taken                | ^number of a run with no budget
+untouched   | step-block-of-20-bytes-refused             | ^number of a step,
+untouched   | run-block-of-20-bytes-refused              | ^number of a run,
+untouched   | step-quotient-not-written                  | ^memory after a step and a run
+untouched   | run-quotient-not-written                   | ^memory after a step and a run
 untouched   | step-size-before-length                    | ^number of a step,
 untouched   | run-size-cut-to-a-byte                     | ^number of a run,
 untouched   | run-budget-0-is-1                          | ^number of a run with no budget
 untouched   | step-refusal-writes                        | ^memory after a step and a run
 untouched   | run-refusal-writes                         | ^memory after a step and a run
-untouched   | rem80-unnormal-is-a-number                 | ^an unsupported dividend
-untouched   | rem80-unnormal-is-a-number                 | ^an unsupported divisor
+untouched   | rem80-unnormal-is-a-number                 | ^an unsupported dividend,
+untouched   | rem80-unnormal-is-a-number                 | ^an unsupported divisor,
+untouched   | remquo80-unnormal-is-a-number              | ^an unsupported dividend of remquo
+untouched   | remquo80-unnormal-is-a-number              | ^an unsupported divisor of remquo
 untouched   | rem80-pseudo-denormal-refused              | ^number of a remainder, x87: 2
 untouched   | step-pseudo-denormal-refused               | ^number of a step, x87: 2
 untouched   | run-pseudo-denormal-refused                | ^number of a run, x87: 2
+untouched   | remquo80-pseudo-denormal-refused           | ^number of a remquo, x87: 2
+untouched   | remquo80-pseudo-denormal-divisor-refused   | ^number of a remquo, x87: 2
+untouched   | remquo80-pseudo-denormal-divisor-is-zero   | ^number of a remquo, x87: 5
 untouched   | run-pseudo-denormal-divisor-is-zero        | ^number of a run with no budget, x87: 5
 untouched   | step-length-cut-to-32-bits                 | ^number of a step with a long block
 untouched   | run-length-cut-to-32-bits                  | ^number of a run with a long block
@@ -89,6 +115,23 @@ untouched   | step-zero-finishes                         | ^number of a written 
 untouched   | step-partial-not-counted                   | ^memory after a written block
 untouched   | step-pseudo-denormal-kept-by-infinity      | ^memory after a written block
 untouched   | run-pseudo-denormal-divisor-refused        | ^number of a written block
+untouched   | step-octant-of-four-bits                   | ^memory after a written block
+untouched   | step-octant-of-eight-bits                  | ^memory after a written block
+untouched   | step-quotient-big-endian                   | ^memory after a written block
+untouched   | step-quotient-not-written                  | ^memory after a written block
+untouched   | step-quotient-of-three-bits                | ^memory after a written block
+untouched   | step-quotient-of-30-bits                   | ^memory after a written block
+untouched   | step-quotient-of-32-bits                   | ^memory after a written block
+untouched   | run-octant-of-four-bits                    | ^memory after a written block
+untouched   | run-octant-of-eight-bits                   | ^memory after a written block
+untouched   | run-quotient-big-endian                    | ^memory after a written block
+untouched   | run-quotient-not-written                   | ^memory after a written block
+untouched   | run-quotient-of-three-bits                 | ^memory after a written block
+untouched   | run-quotient-of-30-bits                    | ^memory after a written block
+untouched   | run-quotient-of-32-bits                    | ^memory after a written block
+untouched   | run-quotient-of-the-last-step              | ^memory after a written block
+untouched   | run-parts-added-modulo-8                   | ^memory after a written block
+untouched   | run-sum-is-not-folded                      | ^memory after a written block
 untouched   | step-writes-a-byte-more                    | ^bytes around a block
 untouched   | run-with-no-budget-gives-a-zero            | ^a run with no budget gives the dividend
 untouched   | run-spent-after-two-steps-finishes         | ^number of a run with a budget of 300
@@ -96,28 +139,65 @@ untouched   | run-budget-cut-to-a-byte                   | ^memory after a run w
 untouched   | rem80-pseudo-denormal-kept-by-infinity     | ^remainder of a pseudo-denormal by infinity
 untouched   | step-pseudo-denormal-kept-by-infinity      | ^step of a pseudo-denormal by infinity
 untouched   | run-pseudo-denormal-kept-by-infinity       | ^run of a pseudo-denormal by infinity
+untouched   | remquo80-pseudo-denormal-kept-by-infinity  | ^remquo of a pseudo-denormal by infinity
+untouched   | remquo80-by-infinity-is-minus-one          | ^remquo of a pseudo-denormal by infinity
 untouched   | rem80-pseudo-denormal-kept-by-a-number     | ^remainder of a pseudo-denormal by 1:
 untouched   | step-pseudo-denormal-kept-by-a-number      | ^step of a pseudo-denormal by 1:
 untouched   | run-pseudo-denormal-kept-by-a-number       | ^run of a pseudo-denormal by 1:
+untouched   | remquo80-pseudo-denormal-kept-by-a-number  | ^remquo of a pseudo-denormal by 1:
 untouched   | rem80-pseudo-denormal-is-denormal          | ^remainder of a pseudo-denormal by itself
 untouched   | step-pseudo-denormal-is-denormal           | ^step of a pseudo-denormal by itself
 untouched   | run-pseudo-denormal-is-denormal            | ^run of a pseudo-denormal by itself
+untouched   | remquo80-pseudo-denormal-is-denormal       | ^remquo of a pseudo-denormal by itself
 untouched   | step-pseudo-denormal-is-denormal           | ^step of a pseudo-denormal by its ordinary pattern
+untouched   | remquo80-sign-of-x                         | ^remquo of a pseudo-denormal by its ordinary pattern
 untouched   | rem80-pseudo-denormal-divisor-is-denormal  | ^remainder of an ordinary pattern by its pseudo-denormal
 untouched   | step-pseudo-denormal-divisor-is-denormal   | ^step of an ordinary pattern by its pseudo-denormal
 untouched   | run-pseudo-denormal-divisor-is-denormal    | ^run of an ordinary pattern by its pseudo-denormal
+untouched   | remquo80-pseudo-denormal-divisor-is-denormal | ^remquo of an ordinary pattern by its pseudo-denormal
 untouched   | rem80-pseudo-denormal-divisor-is-zero      | ^remainder of a zero by a pseudo-denormal
 untouched   | step-pseudo-denormal-divisor-is-zero       | ^step of a zero by a pseudo-denormal
+untouched   | remquo80-zero-is-minus-one                 | ^remquo of a zero by a pseudo-denormal
 untouched   | run-pseudo-denormal-kept-with-no-budget    | ^a run of a pseudo-denormal with no budget
 untouched   | scale80-pseudo-denormal-kept-by-0          | ^a pseudo-denormal scaled by 0
 untouched   | split80-pseudo-denormal-exponent-too-low   | ^a pseudo-denormal split,
 untouched   | split80-pseudo-denormal-is-denormal        | ^a pseudo-denormal split and scaled back
 untouched   | rem16-only-1-is-nearest                    | ^a kind, binary16
 untouched   | rem32-other-kinds-write-more               | ^memory after a kind, binary32
+untouched   | remquo32-only-1-is-nearest                 | ^a kind of a remquo, binary32
+untouched   | remquo80-only-1-is-nearest                 | ^a kind of a remquo, x87
+untouched   | remquo16-quotient-is-cut                   | ^a kind of a remquo, binary16
+untouched   | remquo64-quotient-is-cut                   | ^a kind of a remquo, binary64
 untouched   | step-only-1-is-nearest                     | ^a kind of a step
 untouched   | run-only-1-is-nearest                      | ^a kind of a run
 untouched   | fold-only-1-is-nearest                     | ^a kind of a list
 untouched   | fold-dividend-written                      | ^the dividends of a list
+untouched   | rem16-quotient-of-30-bits                  | ^a quotient, binary16
+untouched   | rem32-quotient-of-30-bits                  | ^a quotient, binary32
+untouched   | rem64-quotient-of-30-bits                  | ^a quotient, binary64
+untouched   | rem80-quotient-of-30-bits                  | ^a quotient, x87
+untouched   | rem32-modulus-is-not-folded                | ^a quotient, binary32
+untouched   | remquo16-zero-loses-its-sign               | ^a value of remquo, binary16
+untouched   | remquo32-last-bit-is-wrong                 | ^a value of remquo, binary32
+untouched   | remquo64-zero-loses-its-sign               | ^a value of remquo, binary64
+untouched   | remquo80-zero-has-the-divisors-sign        | ^a value of remquo, x87
+untouched   | remquo16-sign-of-x                         | ^a quotient of remquo, binary16
+untouched   | remquo16-sign-of-y                         | ^a quotient of remquo, binary16
+untouched   | remquo32-sign-of-x                         | ^a quotient of remquo, binary32
+untouched   | remquo32-sign-of-y                         | ^a quotient of remquo, binary32
+untouched   | remquo64-sign-of-x                         | ^a quotient of remquo, binary64
+untouched   | remquo64-sign-of-y                         | ^a quotient of remquo, binary64
+untouched   | remquo80-sign-of-x                         | ^a quotient of remquo, x87
+untouched   | remquo80-sign-of-y                         | ^a quotient of remquo, x87
+untouched   | remquo16-quotient-of-30-bits               | ^a quotient of remquo, binary16
+untouched   | remquo32-quotient-of-30-bits               | ^a quotient of remquo, binary32
+untouched   | remquo64-quotient-of-30-bits               | ^a quotient of remquo, binary64
+untouched   | remquo80-quotient-of-30-bits               | ^a quotient of remquo, x87
+untouched   | remquo16-modulus-is-the-least-number       | ^a quotient of remquo, binary16
+untouched   | remquo64-modulus-is-the-least-number       | ^a quotient of remquo, binary64
+untouched   | remquo16-by-infinity-is-minus-one          | ^a quotient of remquo, binary16
+untouched   | remquo80-by-infinity-is-minus-one          | ^a quotient of remquo, x87
+untouched   | remquo32-zero-is-minus-one                 | ^a quotient of remquo, binary32
 untouched   | scale64-cut                                | ^scaling up, binary64
 untouched   | scale32-nothing-left-is-up                 | ^scaling down, binary32
 untouched   | scale80-half-of-the-smallest-is-up         | ^scaling at a half, x87
@@ -125,13 +205,47 @@ untouched   | split64-denormal-exponent-from-its-field   | ^an exponent, binary6
 untouched   | split64-denormal-exponent-from-its-field   | ^splitting and back, binary64
 chains 2000 | run-zero-loses-its-sign                    | ^run of
 chains 2000 | run-spent-by-its-last-step                 | ^run of
-chains 9000 | run-bits-of-the-last-step                  | ^run of
+chains 2000 | run-quotient-of-the-last-step              | ^run of
 chains 2000 | run-a-step-too-many                        | ^run of
 chains 2000 | run-refusal-writes                         | ^run of
+chains 2000 | run-parts-added-modulo-8                   | ^run of
+chains 2000 | run-sum-is-not-folded                      | ^run of
+chains 2000 | run-spent-after-two-steps-has-no-quotient  | ^run of
+chains 2000 | run-octant-of-four-bits                    | ^run of
+chains 2000 | run-octant-of-eight-bits                   | ^run of
+chains 2000 | run-quotient-big-endian                    | ^run of
+chains 2000 | run-quotient-not-written                   | ^run of
+chains 2000 | run-quotient-of-three-bits                 | ^run of
+chains 2000 | run-quotient-of-30-bits                    | ^run of
+chains 2000 | run-quotient-of-32-bits                    | ^run of
+chains 2000 | run-block-of-20-bytes-refused              | ^run of
 chains 2000 | step-zero-loses-its-sign                   | ^steps of
 chains 2000 | step-end-is-refused                        | ^steps of
 chains 2000 | step-c0-lost                               | ^steps of
 chains 2000 | step-refusal-writes                        | ^steps of
+chains 2000 | step-octant-of-four-bits                   | ^steps of
+chains 2000 | step-octant-of-eight-bits                  | ^steps of
+chains 2000 | step-quotient-big-endian                   | ^steps of
+chains 2000 | step-quotient-not-written                  | ^steps of
+chains 2000 | step-quotient-of-three-bits                | ^steps of
+chains 2000 | step-quotient-of-30-bits                   | ^steps of
+chains 2000 | step-quotient-of-32-bits                   | ^steps of
+chains 2000 | step-block-of-20-bytes-refused             | ^steps of
+chains 2000 | rem80-quotient-of-three-bits               | ^steps of
+chains 2000 | rem80-quotient-of-30-bits                  | ^steps of
+chains 2000 | rem80-quotient-of-32-bits                  | ^steps of
+chains 2000 | remquo80-quotient-of-three-bits            | ^remquo of
+chains 2000 | remquo80-quotient-of-30-bits               | ^remquo of
+chains 2000 | remquo80-quotient-of-32-bits               | ^remquo of
+chains 2000 | remquo80-quotient-is-cut                   | ^remquo of
+chains 2000 | remquo80-sign-of-x                         | ^remquo of
+chains 2000 | remquo80-sign-of-y                         | ^remquo of
+chains 2000 | remquo80-zero-is-minus-one                 | ^remquo of
+chains 2000 | remquo80-by-infinity-is-minus-one          | ^remquo of
+chains 2000 | remquo80-zero-has-the-divisors-sign        | ^remquo of
+chains 2000 | remquo80-refusal-writes-the-quotient       | ^remquo of
+chains 2000 | remquo80-refusal-writes-the-word           | ^remquo of
+chains 2000 | remquo80-infinite-dividend-before-unsupported | ^remquo of
 chains 2000 | run-pseudo-denormal-kept-with-no-budget    | ^run of [08]000[89A-F].* budget 0:
 chains 2000 | run-pseudo-denormal-kept-by-infinity       | ^run of [08]000[89A-F].* by [7F]FFF8
 chains 2000 | run-pseudo-denormal-kept-by-a-number       | ^run of [08]000[89A-F]
@@ -143,21 +257,44 @@ chains 2000 | step-pseudo-denormal-kept-by-infinity      | ^steps of [08]000[89A
 chains 2000 | step-pseudo-denormal-is-denormal           | ^steps of [08]000[89A-F]
 chains 2000 | step-pseudo-denormal-divisor-is-denormal   | ^steps of .* by [08]000[89A-F]
 chains 2000 | step-pseudo-denormal-divisor-is-zero       | ^steps of .* by [08]000[89A-F]
+chains 2000 | remquo80-pseudo-denormal-is-denormal       | ^remquo of [08]000[89A-F]
+chains 2000 | remquo80-pseudo-denormal-kept-by-infinity  | ^remquo of [08]000[89A-F].* by [7F]FFF8
+chains 2000 | remquo80-pseudo-denormal-divisor-is-denormal | ^remquo of .* by [08]000[89A-F]
 chains 20   | none                                       | gaps: .* has no pair
 chains 20   | none                                       | pseudo-denormals: .* has no pair
+chains 20   | none                                       | sums of chains: .* has no pair
 fold 20     | fold-marked-list-is-refused                | the list is refused
 fold 20     | fold-zero-loses-its-sign                   | the list's answer is not
 fold 20     | fold-mark-is-negative                      | the list's answer is not
 fold 20     | fold-bits-of-the-first-places              | the list's answer is not
+fold 20     | fold-byte-of-eight-bits                    | the list's answer is not
 fold 20     | fold-count-cut-to-a-byte                   | the count of marked places
 fold 20     | fold-result-behind-the-list                | what lies behind the list
 fold 20     | fold-byte-behind-the-list                  | what lies behind the list
-half 15859  | rem16-denormal-by-infinity-is-zero         | by 7C00 kind 0
-half 15859  | rem16-denormal-by-infinity-is-zero         | by 7C00 kind 1
-half 31744  | rem16-quotient-of-two-bits                 | kind 0
-half 31744  | rem16-quotient-of-two-bits                 | kind 1
+half 15859  | rem16-denormal-by-infinity-is-zero         | ^.... by 7C00 kind 0
+half 15859  | rem16-denormal-by-infinity-is-zero         | ^.... by 7C00 kind 1
+half 31744  | rem16-quotient-of-two-bits                 | ^.... by .* kind 0
+half 31744  | rem16-quotient-of-two-bits                 | ^.... by .* kind 1
 half 31744  | rem16-infinity-by-zero-is-five             | zukemoriha .* number 5
-half 31744  | rem16-refusal-writes                       | by 0000 kind
+half 31744  | rem16-refusal-writes                       | ^.... by 0000 kind
+half 31744  | rem16-quotient-of-three-bits               | ^.... by .* kind 0
+half 31744  | rem16-quotient-of-30-bits                  | ^.... by .* kind 0
+half 31744  | rem16-quotient-of-30-bits                  | ^.... by .* kind 1
+half 31744  | rem16-quotient-of-32-bits                  | ^.... by .* kind 1
+half 31744  | remquo16-sign-of-x                         | ^remquo of .* kind 0
+half 31744  | remquo16-sign-of-x                         | ^remquo of .* kind 1
+half 31744  | remquo16-sign-of-y                         | ^remquo of .* kind 0
+half 31744  | remquo16-sign-of-y                         | ^remquo of .* kind 1
+half 31744  | remquo16-quotient-of-three-bits            | ^remquo of
+half 31744  | remquo16-quotient-of-30-bits               | ^remquo of
+half 31744  | remquo16-quotient-of-32-bits               | ^remquo of
+half 31744  | remquo16-quotient-is-cut                   | ^remquo of .* kind 1
+half 31744  | remquo16-by-infinity-is-minus-one          | ^remquo of .* by [7F]C00
+half 31744  | remquo16-zero-loses-its-sign               | ^remquo of
+half 31744  | remquo16-infinity-by-zero-is-five          | ^remquo of .* by [08]000
+half 31744  | remquo16-refusal-writes-the-quotient       | ^remquo of
+half 31744  | remquo16-refusal-writes-the-value          | ^remquo of
+half 22527  | remquo16-modulus-is-the-least-number       | ^remquo of 5800 by 0001
 half 31744  | scale16-half-always-up                     | ^.... scaled by
 half 31744  | scale16-nothing-loses-its-sign             | ^.... scaled by
 half 31744  | scale16-nothing-left-is-exact              | ^.... scaled by
@@ -171,7 +308,12 @@ fprem 2000  | step-end-has-the-divisors-sign             | ^step of .* kind 1
 fprem 2000  | step-end-is-refused                        | ^step of
 fprem 2000  | step-c0-lost                               | ^step of
 fprem 2000  | step-c3-and-c1-exchanged                   | ^step of
-fprem 2000  | step-quotient-of-four-bits                 | ^step of
+fprem 2000  | step-octant-of-four-bits                   | ^step of
+fprem 2000  | step-octant-of-eight-bits                  | ^step of
+fprem 2000  | step-quotient-big-endian                   | ^step of
+fprem 2000  | step-quotient-not-written                  | ^step of
+fprem 2000  | step-quotient-of-32-bits                   | ^step of
+fprem 2000  | step-block-of-20-bytes-refused             | ^step of
 fprem 2000  | step-last-not-counted                      | ^step of
 fprem 2000  | step-writes-a-byte-more                    | ^step of
 fprem 2000  | step-pseudo-denormal-refused               | ^step of [08]000[89A-F]
@@ -186,12 +328,31 @@ fprem 2000  | step-pseudo-denormal-divisor-is-denormal   | ^step of .* by [08]00
 fprem 2000  | step-pseudo-denormal-divisor-is-zero       | ^step of .* by [08]000[89A-F]
 fprem 2000  | run-zero-loses-its-sign                    | ^run of
 fprem 2000  | run-budget-cut-to-a-byte                   | ^run of
-fprem 2000  | run-bits-of-the-last-step                  | ^run of
+fprem 2000  | run-quotient-of-the-last-step              | ^run of
+fprem 2000  | step-quotient-of-three-bits                | ^run of
+fprem 2000  | step-quotient-of-30-bits                   | ^run of
+fprem 2000  | run-octant-of-eight-bits                   | ^run of
+fprem 2000  | run-parts-added-modulo-8                   | ^run of
+fprem 2000  | run-quotient-of-three-bits                 | ^run of
+fprem 2000  | run-quotient-of-30-bits                    | ^run of
 fprem 2000  | run-pseudo-denormal-is-denormal            | ^run of [08]000[89A-F]
 fprem 2000  | run-pseudo-denormal-kept-by-infinity       | ^run of [08]000[89A-F].* by [7F]FFF8
 fprem 2000  | run-pseudo-denormal-divisor-is-denormal    | ^run of .* by [08]000[89A-F]
 fprem 2000  | rem80-zero-has-the-divisors-sign           | ^remainder of
 fprem 2000  | rem80-far-quotient-of-two-bits             | ^remainder of
+fprem 2000  | rem80-quotient-of-three-bits               | ^remainder of
+fprem 2000  | rem80-quotient-of-30-bits                  | ^remainder of
+fprem 2000  | rem80-quotient-of-32-bits                  | ^remainder of
+fprem 2000  | remquo80-quotient-of-three-bits            | ^remquo of
+fprem 2000  | remquo80-quotient-of-30-bits               | ^remquo of
+fprem 2000  | remquo80-quotient-of-32-bits               | ^remquo of
+fprem 2000  | remquo80-quotient-is-cut                   | ^remquo of
+fprem 2000  | remquo80-sign-of-x                         | ^remquo of
+fprem 2000  | remquo80-sign-of-y                         | ^remquo of
+fprem 2000  | remquo80-zero-is-minus-one                 | ^remquo of
+fprem 2000  | remquo80-zero-has-the-divisors-sign        | ^remquo of
+fprem 2000  | remquo80-pseudo-denormal-refused           | ^remquo of [08]000[89A-F]
+fprem 2000  | remquo80-pseudo-denormal-kept-by-a-number  | ^remquo of [08]000[89A-F]
 fprem 2000  | rem80-pseudo-denormal-is-denormal          | ^remainder of [08]000[89A-F]
 fprem 2000  | rem80-pseudo-denormal-kept-by-infinity     | ^remainder of [08]000[89A-F].* by [7F]FFF8
 fprem 2000  | rem80-pseudo-denormal-divisor-is-denormal  | ^remainder of .* by [08]000[89A-F]
@@ -227,17 +388,29 @@ libm 2000   | rem64-zero-loses-its-sign                  | ^binary64 .* kind 0
 libm 2000   | rem64-half-always-up                       | ^binary64 .* kind 1
 libm 2000   | rem64-far-quotient-of-two-bits             | ^binary64 .* kind 0
 libm 2000   | rem64-far-quotient-of-two-bits             | ^binary64 .* kind 1
+libm 2000   | rem64-quotient-of-three-bits               | ^binary64 .* kind 0
+libm 2000   | rem64-quotient-of-30-bits                  | ^binary64 .* kind 0
+libm 2000   | rem64-quotient-of-30-bits                  | ^binary64 .* kind 1
+libm 2000   | rem64-quotient-of-32-bits                  | ^binary64 .* kind 0
 libm 2000   | rem64-fraction-is-infinite                 | ^binary64 .* by
-libm 2000   | rem64-refusal-writes                       | wrote where it may not
+libm 2000   | rem64-refusal-writes                       | ^  zukemoriha .* wrote where it may not$
 libm 2000   | rem32-zero-loses-its-sign                  | ^binary32 .* kind 0
 libm 2000   | rem32-zero-loses-its-sign                  | ^binary32 .* kind 1
 libm 2000   | rem32-far-quotient-of-two-bits             | ^binary32 .* kind 0
-libm 2000   | rem32-eight-is-not-folded                  | ^binary32 .* kind 1
+libm 2000   | rem32-modulus-is-not-folded                | ^binary32 .* kind 0
 libm 2000   | rem32-infinite-dividend-before-nan         | ^binary32 .* by
+libm 2000   | rem32-quotient-of-three-bits               | ^binary32 .* kind 0
+libm 2000   | rem32-quotient-of-30-bits                  | ^binary32 .* kind 0
+libm 2000   | rem32-quotient-of-30-bits                  | ^binary32 .* kind 1
+libm 2000   | rem32-quotient-of-32-bits                  | ^binary32 .* kind 1
 libm 2000   | rem80-zero-has-the-divisors-sign           | ^x87 .* kind 0
 libm 2000   | rem80-zero-has-the-divisors-sign           | ^x87 .* kind 1
 libm 2000   | rem80-far-quotient-of-two-bits             | ^x87 .* kind 0
 libm 2000   | rem80-far-quotient-of-two-bits             | ^x87 .* kind 1
+libm 2000   | rem80-quotient-of-three-bits               | ^x87 .* kind 1
+libm 2000   | rem80-quotient-of-30-bits                  | ^x87 .* kind 0
+libm 2000   | rem80-quotient-of-30-bits                  | ^x87 .* kind 1
+libm 2000   | rem80-quotient-of-32-bits                  | ^x87 .* kind 1
 libm 2000   | rem80-infinite-dividend-before-unsupported | ^x87 .* by
 libm 2000   | rem80-pseudo-denormal-refused              | ^x87 [08]000[89A-F].* kind 0
 libm 2000   | rem80-pseudo-denormal-is-denormal          | ^x87 [08]000[89A-F].* kind 0
@@ -251,6 +424,51 @@ libm 2000   | rem80-pseudo-denormal-divisor-is-denormal  | ^x87 .* by [08]000[89
 libm 2000   | rem80-pseudo-denormal-divisor-is-denormal  | ^x87 .* by [08]000[89A-F].* kind 1
 libm 2000   | rem80-pseudo-denormal-divisor-is-zero      | ^x87 .* by [08]000[89A-F]
 libm 2000   | rem80-unnormal-is-a-number                 | ^x87 .* by
+libm 2000   | remquo64-sign-of-x                         | ^remquo of binary64 .* kind 0
+libm 2000   | remquo64-sign-of-x                         | ^remquo of binary64 .* kind 1
+libm 2000   | remquo64-sign-of-y                         | ^remquo of binary64 .* kind 0
+libm 2000   | remquo64-sign-of-y                         | ^remquo of binary64 .* kind 1
+libm 2000   | remquo64-quotient-of-three-bits            | ^remquo of binary64 .* kind 0
+libm 2000   | remquo64-quotient-of-30-bits               | ^remquo of binary64 .* kind 0
+libm 2000   | remquo64-quotient-of-32-bits               | ^remquo of binary64 .* kind 0
+libm 2000   | remquo64-quotient-is-cut                   | ^remquo of binary64 .* kind 1
+libm 2000   | remquo64-refusal-writes-the-quotient       | ^remquo of binary64 .* kind 0
+libm 2000   | remquo64-refusal-writes-the-value          | ^remquo of binary64 .* kind 0
+libm 2000   | remquo32-sign-of-x                         | ^remquo of binary32 .* kind 0
+libm 2000   | remquo32-sign-of-x                         | ^remquo of binary32 .* kind 1
+libm 2000   | remquo32-sign-of-y                         | ^remquo of binary32 .* kind 0
+libm 2000   | remquo32-sign-of-y                         | ^remquo of binary32 .* kind 1
+libm 2000   | remquo32-quotient-of-three-bits            | ^remquo of binary32 .* kind 0
+libm 2000   | remquo32-quotient-of-30-bits               | ^remquo of binary32 .* kind 0
+libm 2000   | remquo32-quotient-of-32-bits               | ^remquo of binary32 .* kind 0
+libm 2000   | remquo32-quotient-is-cut                   | ^remquo of binary32 .* kind 1
+libm 2000   | remquo32-refusal-writes-the-quotient       | ^remquo of binary32 .* kind 0
+libm 2000   | remquo32-refusal-writes-the-value          | ^remquo of binary32 .* kind 0
+libm 2000   | remquo80-sign-of-x                         | ^remquo of x87 .* kind 0
+libm 2000   | remquo80-sign-of-x                         | ^remquo of x87 .* kind 1
+libm 2000   | remquo80-sign-of-y                         | ^remquo of x87 .* kind 0
+libm 2000   | remquo80-sign-of-y                         | ^remquo of x87 .* kind 1
+libm 2000   | remquo80-quotient-of-three-bits            | ^remquo of x87 .* kind 0
+libm 2000   | remquo80-quotient-of-30-bits               | ^remquo of x87 .* kind 0
+libm 2000   | remquo80-quotient-of-32-bits               | ^remquo of x87 .* kind 0
+libm 2000   | remquo80-quotient-is-cut                   | ^remquo of x87 .* kind 1
+libm 2000   | remquo80-refusal-writes-the-quotient       | ^remquo of x87 .* kind 0
+libm 2000   | remquo80-refusal-writes-the-value          | ^remquo of x87 .* kind 0
+libm 2000   | remquo80-refusal-writes-the-word           | ^remquo of x87 .* kind 0
+libm 2000   | remquo64-modulus-is-the-least-number       | ^remquo of binary64 .* kind
+libm 2000   | remquo64-zero-loses-its-sign               | ^remquo of binary64 .* kind
+libm 2000   | remquo64-zero-divisor-is-infinite          | ^remquo of binary64 .* kind
+libm 2000   | remquo32-zero-is-minus-one                 | ^remquo of binary32 .* kind
+libm 2000   | remquo32-last-bit-is-wrong                 | ^remquo of binary32 .* kind
+libm 2000   | remquo32-infinite-dividend-before-nan      | ^remquo of binary32 .* kind
+libm 2000   | remquo80-by-infinity-is-minus-one          | ^remquo of x87 .* by [7F]FFF8.* kind
+libm 2000   | remquo80-zero-has-the-divisors-sign        | ^remquo of x87 .* kind
+libm 2000   | remquo80-unnormal-is-a-number              | ^remquo of x87 .* kind
+libm 2000   | remquo80-pseudo-denormal-refused           | ^remquo of x87 [08]000[89A-F].* kind
+libm 2000   | remquo80-pseudo-denormal-kept-by-infinity  | ^remquo of x87 [08]000[89A-F].* by [7F]FFF8
+libm 2000   | remquo80-pseudo-denormal-divisor-is-zero   | ^remquo of x87 .* by [08]000[89A-F]
+libm 2000 1 31 | none                                       | ^binary64 .* kind
+libm 2000 1 31 | none                                       | ^binary32 .* kind
 libm 20     | none                                       | gaps: .* has no pair
 libm 20     | none                                       | pseudo-denormals: .* has no pair
 disputed 99 | none                                       | its remainder and remquo differ
@@ -459,34 +677,41 @@ stem_writer 1 2  | none                                         | ^radii: .* has
 stem_writer 1 2  | none                                         | ^files: .* has no case
 sanitized-stems 2000       | stem-open-start-one-point-too-far       | heap-buffer-overflow
 sanitized-stem_writer 2000 | stem-write-length-one-too-many          | heap-buffer-overflow
-modes 1600  | rem32-last-bit-as-the-rounding-mode-says   | ^remainder: another answer
+modes 2000  | rem32-last-bit-as-the-rounding-mode-says   | ^remainder: another answer
 modes 8000  | rem64-zero-divisor-is-divided-by           | ^remainder: a trap
 modes 8000  | rem64-zero-divisor-is-divided-by           | ^remainder: a flag is raised
-modes 1600  | rem16-leaves-another-precision             | ^remainder: another environment is left
-modes 1600  | step-c0-lost-in-another-precision          | ^step: another answer
-modes 1600  | run-bits-as-the-control-word-rounds        | ^run: another answer
-modes 1600  | scale80-rounded-as-the-control-word-says   | ^scaling: another answer
-modes 1600  | scale80-rounded-as-the-control-word-says   | ^scaling: a trap
-modes 1600  | split32-zero-as-the-processor-compares     | ^split: another answer
-modes 1600  | split16-leaves-another-rounding-mode       | ^split: another environment is left
-modes 1600  | split80-pseudo-denormal-in-the-x87-unit    | ^split: a trap
-modes 1600  | split80-pseudo-denormal-in-the-x87-unit    | ^split: a flag is raised
-modes 1600  | fold-flushes-as-the-processor-does         | ^list: another answer
-modes 1600  | fold-flushes-as-the-processor-does         | ^list: a trap
-modes 1600  | stem-open-period-compared-by-the-processor | ^stem file: another answer
-modes 1600  | stem-open-period-compared-by-the-processor | ^stem file: a trap
-modes 1600  | stem-fold-rounds-as-the-processor-does     | ^stem point: another answer with MXCSR 3F80
-modes 1600  | stem-fold-flushes-as-the-processor-does    | ^stem point: another answer
-modes 1600  | stem-fold-traps-as-the-processor-does      | ^stem point: a trap
-modes 1600  | stem-write-period-compared-by-the-processor | ^written file: another answer
-modes 1600  | stem-write-period-compared-by-the-processor | ^written file: a trap
-modes 1600  | stem-write-flushes-as-the-processor-does   | ^written file: another answer
-modes 1600  | stem-write-flushes-as-the-processor-does   | ^written file: a trap
-modes 1600  | stem-write-flushes-as-the-processor-does   | ^written file: a flag is raised
+modes 2000  | rem16-leaves-another-precision             | ^remainder: another environment is left
+modes 2000  | remquo64-sign-as-the-processor-compares    | ^remquo: another answer
+modes 2000  | remquo64-sign-as-the-processor-compares    | ^remquo: a trap
+modes 2000  | remquo64-sign-as-the-processor-compares    | ^remquo: a flag is raised
+modes 2000  | remquo32-leaves-another-rounding-mode      | ^remquo: another environment is left
+modes 2000  | step-c0-lost-in-another-precision          | ^step: another answer
+modes 2000  | run-quotient-as-the-control-word-rounds    | ^run: another answer
+modes 2000  | scale80-rounded-as-the-control-word-says   | ^scaling: another answer
+modes 2000  | scale80-rounded-as-the-control-word-says   | ^scaling: a trap
+modes 2000  | split32-zero-as-the-processor-compares     | ^split: another answer
+modes 2000  | split16-leaves-another-rounding-mode       | ^split: another environment is left
+modes 3000  | split80-pseudo-denormal-in-the-x87-unit    | ^split: a trap
+modes 3000  | split80-pseudo-denormal-in-the-x87-unit    | ^split: a flag is raised
+modes 2000  | fold-flushes-as-the-processor-does         | ^list: another answer
+modes 2000  | fold-flushes-as-the-processor-does         | ^list: a trap
+modes 2000  | stem-open-period-compared-by-the-processor | ^stem file: another answer
+modes 2000  | stem-open-period-compared-by-the-processor | ^stem file: a trap
+modes 2000  | stem-fold-rounds-as-the-processor-does     | ^stem point: another answer with MXCSR 3F80
+modes 2000  | stem-fold-flushes-as-the-processor-does    | ^stem point: another answer
+modes 2000  | stem-fold-traps-as-the-processor-does      | ^stem point: a trap
+modes 2000  | stem-write-period-compared-by-the-processor | ^written file: another answer
+modes 2000  | stem-write-period-compared-by-the-processor | ^written file: a trap
+modes 2000  | stem-write-flushes-as-the-processor-does   | ^written file: another answer
+modes 2000  | stem-write-flushes-as-the-processor-does   | ^written file: a trap
+modes 2000  | stem-write-flushes-as-the-processor-does   | ^written file: a flag is raised
 modes 8     | none                                       | has no question
 host        | rem64-last-bit-is-wrong                    | ^C++ host: FAILED
 host        | rem64-quotient-of-one-bit                  | ^C++ host: FAILED
 host        | rem64-fraction-is-infinite                 | ^C++ host: FAILED
+host        | rem64-quotient-of-three-bits               | ^C++ host: FAILED
+host        | remquo64-quotient-is-cut                   | ^C++ host: FAILED
+host        | remquo64-sign-of-y                         | ^C++ host: FAILED
 ROWS
 
 for program do

@@ -15,6 +15,10 @@ REAL(zk_rem16, uint16_t x, uint16_t y, uint32_t kind, uint16_t *value, uint32_t 
 REAL(zk_rem32, uint32_t x, uint32_t y, uint32_t kind, uint32_t *value, uint32_t *quotient);
 REAL(zk_rem64, uint64_t x, uint64_t y, uint32_t kind, uint64_t *value, uint32_t *quotient);
 REAL(zk_rem80, uint64_t x, uint16_t xw, uint64_t y, uint16_t yw, uint32_t kind, uint64_t *value, uint16_t *valuew, uint32_t *quotient);
+REAL(zk_remquo16, uint16_t x, uint16_t y, uint32_t kind, uint16_t *value, int32_t *quotient);
+REAL(zk_remquo32, uint32_t x, uint32_t y, uint32_t kind, uint32_t *value, int32_t *quotient);
+REAL(zk_remquo64, uint64_t x, uint64_t y, uint32_t kind, uint64_t *value, int32_t *quotient);
+REAL(zk_remquo80, uint64_t x, uint16_t xw, uint64_t y, uint16_t yw, uint32_t kind, uint64_t *value, uint16_t *valuew, int32_t *quotient);
 REAL(zk_step80, uint64_t x, uint16_t xw, uint64_t y, uint16_t yw, uint32_t size, uint32_t kind, uint8_t *block, size_t length);
 REAL(zk_run80, uint64_t x, uint16_t xw, uint64_t y, uint16_t yw, uint32_t size, uint32_t kind, uint32_t budget, uint8_t *block,
      size_t length);
@@ -64,6 +68,45 @@ static uint64_t by_the_processor(uint64_t pattern) {
     return zk_pattern_of_double(product);
 }
 
+/* Numbers in bytes, little-endian. */
+
+static uint64_t little(const uint8_t *bytes, int n) {
+    uint64_t number = 0;
+    while (n-- > 0)
+        number = number << 8 | bytes[n];
+    return number;
+}
+
+static void put(uint8_t *bytes, uint64_t number, int n) {
+    for (; n > 0; n--, number >>= 8)
+        *bytes++ = (uint8_t)number;
+}
+
+/* Quotients as a fault tells them. */
+
+/* Of fewer bits than 31; or of 32, where the last of them is a one by odd divisors. */
+static uint32_t of_bits(uint32_t quotient, uint64_t divisor, int three, int thirty, int thirty_two) {
+    if (three)
+        return quotient & 7;
+    if (thirty)
+        return quotient & 0x3FFFFFFF;
+    return thirty_two && divisor % 2 == 1 && quotient != 0 ? quotient | ZK_QUOTIENT_MODULUS : quotient;
+}
+
+/* The same of remquo's, whose sign stays where there is room for it. */
+static int32_t of_signed_bits(int32_t quotient, uint64_t divisor, int three, int thirty, int thirty_two) {
+    uint32_t magnitude = quotient < 0 ? 0u - (uint32_t)quotient : (uint32_t)quotient;
+    uint32_t told = of_bits(magnitude, divisor, three, thirty, thirty_two);
+    return (int32_t)(quotient < 0 ? 0u - told : told);
+}
+
+/* With the sign of one operand alone. */
+static int32_t of_one_sign(int32_t quotient, int x_is_negative, int y_is_negative, int of_x, int of_y) {
+    if (!of_x && !of_y)
+        return quotient;
+    return (of_x ? x_is_negative : y_is_negative) ? -abs(quotient) : abs(quotient);
+}
+
 uint8_t zk_rem16(uint16_t x, uint16_t y, uint32_t kind, uint16_t *value, uint32_t *quotient) {
     uint8_t number;
     if (fault("rem16-only-1-is-nearest"))
@@ -75,6 +118,9 @@ uint8_t zk_rem16(uint16_t x, uint16_t y, uint32_t kind, uint16_t *value, uint32_
     }
     if (fault("rem16-quotient-of-two-bits") && number == ZK_FINISHED)
         *quotient &= 3;
+    if (number == ZK_FINISHED)
+        *quotient = of_bits(*quotient, y, fault("rem16-quotient-of-three-bits"), fault("rem16-quotient-of-30-bits"),
+                            fault("rem16-quotient-of-32-bits"));
     if (fault("rem16-refusal-writes") && number == ZK_ZERO_DIVISOR)
         *value = x;
     if (fault("rem16-denormal-by-infinity-is-zero") && number == ZK_FINISHED && (y & 0x7FFF) == 0x7C00 && (x & 0x7FFF) < 0x400)
@@ -88,8 +134,11 @@ uint8_t zk_rem32(uint32_t x, uint32_t y, uint32_t kind, uint32_t *value, uint32_
     uint8_t number = real_zk_rem32(x, y, kind, value, quotient);
     if (fault("rem32-last-bit-as-the-rounding-mode-says") && number == ZK_FINISHED && rounding() != 0)
         *value ^= 1;
-    if (fault("rem32-eight-is-not-folded") && number == ZK_FINISHED && kind && *quotient == 0 && *value != x)
-        *quotient = 8; /* eight is not folded onto nothing */
+    if (fault("rem32-modulus-is-not-folded") && number == ZK_FINISHED && *quotient == 0 && *value != x)
+        *quotient = ZK_QUOTIENT_MODULUS; /* a multiple of 2^31 is not folded onto nothing */
+    if (number == ZK_FINISHED)
+        *quotient = of_bits(*quotient, y, fault("rem32-quotient-of-three-bits"), fault("rem32-quotient-of-30-bits"),
+                            fault("rem32-quotient-of-32-bits"));
     if (fault("rem32-far-quotient-of-two-bits") && number == ZK_FINISHED && (int)(x >> 23 & 255) - (int)(y >> 23 & 255) >= 100)
         *quotient &= 3;
     if (fault("rem32-zero-loses-its-sign") && number == ZK_FINISHED && *value == 0x80000000)
@@ -108,7 +157,7 @@ static void half_up(uint64_t x, uint64_t y, uint64_t *value, uint32_t *quotient)
     real_zk_rem64(x, y, ZK_TRUNCATED, &cut, &bits);
     if (2 * zk_double_of_pattern(cut & ~sign64) == zk_double_of_pattern(y & ~sign64)) {
         *value = cut ^ sign64;
-        *quotient = (bits + 1) & 7;
+        *quotient = (bits + 1) % ZK_QUOTIENT_MODULUS;
     }
 }
 
@@ -131,6 +180,9 @@ uint8_t zk_rem64(uint64_t x, uint64_t y, uint32_t kind, uint64_t *value, uint32_
         *value ^= 1;
     if (fault("rem64-quotient-of-one-bit") && number == ZK_FINISHED)
         *quotient &= 1;
+    if (number == ZK_FINISHED)
+        *quotient = of_bits(*quotient, y, fault("rem64-quotient-of-three-bits"), fault("rem64-quotient-of-30-bits"),
+                            fault("rem64-quotient-of-32-bits"));
     if (fault("rem64-fraction-is-infinite") && number == ZK_FINISHED && x << 12 != 0)
         return ZK_INFINITE; /* a dividend that is no power of two is told as infinite */
     return number;
@@ -181,6 +233,9 @@ uint8_t zk_rem80(uint64_t x, uint16_t xw, uint64_t y, uint16_t yw, uint32_t kind
         *valuew = xw;
     if (fault("rem80-far-quotient-of-two-bits") && number == ZK_FINISHED && (int)(xw & 32767) - (int)(yw & 32767) >= 40)
         *quotient &= 3;
+    if (number == ZK_FINISHED)
+        *quotient = of_bits(*quotient, y, fault("rem80-quotient-of-three-bits"), fault("rem80-quotient-of-30-bits"),
+                            fault("rem80-quotient-of-32-bits"));
     if (fault("rem80-infinite-dividend-before-unsupported") && number == ZK_UNSUPPORTED && (xw & 32767) == 32767 && x == sign64)
         return ZK_INFINITE; /* an infinite dividend is judged before an unsupported divisor */
     if (fault("rem80-zero-has-the-divisors-sign") && number == ZK_FINISHED && *value == 0)
@@ -188,8 +243,158 @@ uint8_t zk_rem80(uint64_t x, uint16_t xw, uint64_t y, uint16_t yw, uint32_t kind
     return number;
 }
 
-uint8_t zk_step80(uint64_t x, uint16_t xw, uint64_t y, uint16_t yw, uint32_t size, uint32_t kind, uint8_t *block, size_t length) {
+uint8_t zk_remquo16(uint16_t x, uint16_t y, uint32_t kind, uint16_t *value, int32_t *quotient) {
+    uint8_t number = real_zk_remquo16(x, y, kind, value, quotient);
+    uint16_t cut;
+    if (fault("remquo16-refusal-writes-the-quotient") && number != ZK_FINISHED)
+        *quotient = 0;
+    if (fault("remquo16-refusal-writes-the-value") && number != ZK_FINISHED)
+        *value = x;
+    if (fault("remquo16-infinity-by-zero-is-five") && number == ZK_INFINITE && (y & 0x7FFF) == 0)
+        return ZK_ZERO_DIVISOR;
+    if (number != ZK_FINISHED)
+        return number;
+    if (fault("remquo16-quotient-is-cut") && kind)
+        real_zk_remquo16(x, y, ZK_TRUNCATED, &cut, quotient); /* beside the nearest remainder */
+    if (fault("remquo16-modulus-is-the-least-number") && *quotient == 0 && *value != x)
+        *quotient = INT32_MIN; /* a multiple of 2^31 is not folded onto nothing */
+    if (fault("remquo16-by-infinity-is-minus-one") && (y & 0x7FFF) == 0x7C00 && (x ^ y) >> 15)
+        *quotient = -1;
+    if (fault("remquo16-zero-loses-its-sign") && *value == 0x8000)
+        *value = 0;
+    *quotient = of_signed_bits(*quotient, y, fault("remquo16-quotient-of-three-bits"), fault("remquo16-quotient-of-30-bits"),
+                               fault("remquo16-quotient-of-32-bits"));
+    *quotient = of_one_sign(*quotient, x >> 15, y >> 15, fault("remquo16-sign-of-x"), fault("remquo16-sign-of-y"));
+    return number;
+}
+
+uint8_t zk_remquo32(uint32_t x, uint32_t y, uint32_t kind, uint32_t *value, int32_t *quotient) {
     uint8_t number;
+    uint32_t cut;
+    if (fault("remquo32-only-1-is-nearest"))
+        kind = kind == 1;
+    number = real_zk_remquo32(x, y, kind, value, quotient);
+    if (fault("remquo32-leaves-another-rounding-mode"))
+        _mm_setcsr(_mm_getcsr() | 0x2000);
+    if (fault("remquo32-refusal-writes-the-quotient") && number != ZK_FINISHED)
+        *quotient = 0;
+    if (fault("remquo32-refusal-writes-the-value") && number != ZK_FINISHED)
+        *value = x;
+    if (fault("remquo32-infinite-dividend-before-nan") && number == ZK_NAN && (x & 0x7FFFFFFF) == 0x7F800000)
+        return ZK_INFINITE;
+    if (number != ZK_FINISHED)
+        return number;
+    if (fault("remquo32-quotient-is-cut") && kind)
+        real_zk_remquo32(x, y, ZK_TRUNCATED, &cut, quotient);
+    if (fault("remquo32-zero-is-minus-one") && *quotient == 0 && (x ^ y) >> 31)
+        *quotient = -1; /* there is no other 0 below zero */
+    if (fault("remquo32-last-bit-is-wrong"))
+        *value ^= 1;
+    if (fault("remquo32-writes-a-number-more"))
+        quotient[1] = 0;
+    *quotient = of_signed_bits(*quotient, y, fault("remquo32-quotient-of-three-bits"), fault("remquo32-quotient-of-30-bits"),
+                               fault("remquo32-quotient-of-32-bits"));
+    *quotient = of_one_sign(*quotient, x >> 31, y >> 31, fault("remquo32-sign-of-x"), fault("remquo32-sign-of-y"));
+    return number;
+}
+
+/* Whether x/y is negative by comparisons of the processor: no denormal is, where denormals are zeros. */
+static int compared_below_zero(uint64_t x, uint64_t y) {
+    volatile double dividend = zk_double_of_pattern(x), divisor = zk_double_of_pattern(y);
+    return (dividend < 0) != (divisor < 0);
+}
+
+uint8_t zk_remquo64(uint64_t x, uint64_t y, uint32_t kind, uint64_t *value, int32_t *quotient) {
+    uint8_t number = real_zk_remquo64(x, y, kind, value, quotient);
+    uint64_t cut;
+    if (fault("remquo64-refusal-writes-the-quotient") && number != ZK_FINISHED)
+        *quotient = 0;
+    if (fault("remquo64-refusal-writes-the-value") && number != ZK_FINISHED)
+        *value = x;
+    if (fault("remquo64-zero-divisor-is-infinite") && number == ZK_ZERO_DIVISOR)
+        return ZK_INFINITE;
+    if (number != ZK_FINISHED)
+        return number;
+    if (fault("remquo64-quotient-is-cut") && kind)
+        real_zk_remquo64(x, y, ZK_TRUNCATED, &cut, quotient);
+    if (fault("remquo64-modulus-is-the-least-number") && *quotient == 0 && *value != x)
+        *quotient = INT32_MIN;
+    if (fault("remquo64-zero-loses-its-sign") && *value == sign64)
+        *value = 0;
+    if (fault("remquo64-sign-as-the-processor-compares") && *quotient != 0)
+        *quotient = compared_below_zero(x, y) ? -abs(*quotient) : abs(*quotient);
+    *quotient = of_signed_bits(*quotient, y, fault("remquo64-quotient-of-three-bits"), fault("remquo64-quotient-of-30-bits"),
+                               fault("remquo64-quotient-of-32-bits"));
+    *quotient = of_one_sign(*quotient, x >> 63, y >> 63, fault("remquo64-sign-of-x"), fault("remquo64-sign-of-y"));
+    return number;
+}
+
+uint8_t zk_remquo80(uint64_t x, uint16_t xw, uint64_t y, uint16_t yw, uint32_t kind, uint64_t *value, uint16_t *valuew, int32_t *quotient) {
+    uint64_t cut;
+    uint16_t cutw;
+    uint8_t number;
+    if (fault("remquo80-only-1-is-nearest"))
+        kind = kind == 1;
+    mistake(&x, &xw, fault("remquo80-pseudo-denormal-refused"), fault("remquo80-pseudo-denormal-is-denormal"), 0);
+    mistake(&y, &yw, fault("remquo80-pseudo-denormal-divisor-refused"), fault("remquo80-pseudo-denormal-divisor-is-denormal"),
+            fault("remquo80-pseudo-denormal-divisor-is-zero"));
+    if (fault("remquo80-unnormal-is-a-number")) {
+        x = normalised(x, xw);
+        y = normalised(y, yw);
+    }
+    number = real_zk_remquo80(x, xw, y, yw, kind, value, valuew, quotient);
+    if (fault("remquo80-refusal-writes-the-quotient") && number != ZK_FINISHED)
+        *quotient = 0;
+    if (fault("remquo80-refusal-writes-the-value") && number != ZK_FINISHED)
+        *value = x;
+    if (fault("remquo80-refusal-writes-the-word") && number != ZK_FINISHED)
+        *valuew = 0x7FFF;
+    if (fault("remquo80-infinite-dividend-before-unsupported") && number == ZK_UNSUPPORTED && (xw & 32767) == 32767 && x == sign64)
+        return ZK_INFINITE;
+    if (number != ZK_FINISHED)
+        return number;
+    if (keeps(x, xw, yw, *value, fault("remquo80-pseudo-denormal-kept-by-infinity"), fault("remquo80-pseudo-denormal-kept-by-a-number")))
+        *valuew = xw;
+    if (fault("remquo80-quotient-is-cut") && kind)
+        real_zk_remquo80(x, xw, y, yw, ZK_TRUNCATED, &cut, &cutw, quotient);
+    if (fault("remquo80-by-infinity-is-minus-one") && (yw & 32767) == 32767 && (xw ^ yw) >> 15)
+        *quotient = -1;
+    if (fault("remquo80-zero-is-minus-one") && *quotient == 0 && (xw ^ yw) >> 15)
+        *quotient = -1;
+    if (fault("remquo80-zero-has-the-divisors-sign") && *value == 0)
+        *valuew = yw & 0x8000;
+    *quotient = of_signed_bits(*quotient, y, fault("remquo80-quotient-of-three-bits"), fault("remquo80-quotient-of-30-bits"),
+                               fault("remquo80-quotient-of-32-bits"));
+    *quotient = of_one_sign(*quotient, xw >> 15, yw >> 15, fault("remquo80-sign-of-x"), fault("remquo80-sign-of-y"));
+    return number;
+}
+
+/* The quotient of a written block, in both of its places. */
+static void tell(uint8_t *block, uint32_t quotient) {
+    put(block + 16, quotient, 4);
+    block[11] = quotient & 7;
+}
+
+/* Byte 11 with four bits of the quotient, or with all that it has room for. */
+static void spoil_octant(uint8_t *block, int of_four_bits, int of_eight_bits) {
+    if (of_four_bits)
+        block[11] = zk_block_quotient(block) & 15;
+    if (of_eight_bits)
+        block[11] = block[16];
+}
+
+/* Bytes 16 to 19 alone; `lent` is what they were. */
+static void spoil_quotient(uint8_t *block, const uint8_t *lent, int is_big_endian, int is_not_written) {
+    uint32_t quotient = zk_block_quotient(block);
+    if (is_big_endian)
+        put(block + 16, quotient << 24 | (quotient & 0xFF00) << 8 | (quotient >> 8 & 0xFF00) | quotient >> 24, 4);
+    if (is_not_written)
+        memcpy(block + 16, lent, 4);
+}
+
+uint8_t zk_step80(uint64_t x, uint16_t xw, uint64_t y, uint16_t yw, uint32_t size, uint32_t kind, uint8_t *block, size_t length) {
+    uint8_t number, whole[ZK_BLOCK_LENGTH], lent[4] = {0};
+    uint32_t quotient;
     if (fault("step-size-before-length") && (size < ZK_SIZE_LEAST || size > ZK_SIZE_MOST))
         return ZK_BAD_SIZE; /* the size is judged before the length */
     if (fault("step-size-63-is-62") && size == 63)
@@ -205,18 +410,35 @@ uint8_t zk_step80(uint64_t x, uint16_t xw, uint64_t y, uint16_t yw, uint32_t siz
     mistake(&x, &xw, fault("step-pseudo-denormal-refused"), fault("step-pseudo-denormal-is-denormal"), 0);
     mistake(&y, &yw, fault("step-pseudo-denormal-divisor-refused"), fault("step-pseudo-denormal-divisor-is-denormal"),
             fault("step-pseudo-denormal-divisor-is-zero"));
+    if (fault("step-block-of-16-bytes-taken") && length == 16) {
+        number = real_zk_step80(x, xw, y, yw, size, kind, whole, sizeof whole);
+        if (zk_is_answer(number))
+            memcpy(block, whole, 16);
+        return number;
+    }
+    if (fault("step-block-of-20-bytes-refused") && length == 20)
+        return ZK_BAD_LENGTH;
+    if (length == ZK_BLOCK_LENGTH)
+        memcpy(lent, block + 16, 4);
     number = real_zk_step80(x, xw, y, yw, size, kind, block, length);
     if (number == ZK_FINISHED && keeps(x, xw, yw, zk_block_significand(block), fault("step-pseudo-denormal-kept-by-infinity"),
                                        fault("step-pseudo-denormal-kept-by-a-number")))
         block[8] = 0;
+    quotient = zk_is_answer(number) ? zk_block_quotient(block) : 0;
     if (fault("step-c3-and-c1-exchanged") && number == ZK_FINISHED)
-        block[11] = (block[11] & 4) | (block[11] & 1) << 1 | (block[11] >> 1 & 1);
+        tell(block, (quotient & ~3u) | (quotient & 1) << 1 | (quotient >> 1 & 1));
     if (fault("step-c0-lost-in-another-precision") && number == ZK_FINISHED && (x87_control() & 0x0300) != 0x0300)
-        block[11] &= 3;
+        tell(block, quotient & ~4u);
     if (fault("step-c0-lost") && number == ZK_FINISHED)
-        block[11] &= 3;
-    if (fault("step-quotient-of-four-bits") && number == ZK_FINISHED && kind && block[11] == 0 && x != zk_block_significand(block))
-        block[11] = 8; /* eight is not folded onto nothing */
+        tell(block, quotient & ~4u);
+    if (zk_is_answer(number)) {
+        uint32_t told = of_bits(quotient, y, fault("step-quotient-of-three-bits"), fault("step-quotient-of-30-bits"),
+                                fault("step-quotient-of-32-bits"));
+        if (told != quotient)
+            tell(block, told);
+        spoil_octant(block, fault("step-octant-of-four-bits"), fault("step-octant-of-eight-bits"));
+        spoil_quotient(block, lent, fault("step-quotient-big-endian"), fault("step-quotient-not-written"));
+    }
     if (fault("step-end-has-the-divisors-sign") && number == ZK_FINISHED && zk_block_significand(block) == 0)
         block[9] = yw >> 8 & 0x80; /* the sign of a zero that finishes */
     if (fault("step-end-is-refused") && number == ZK_FINISHED && zk_block_significand(block) == 0)
@@ -230,7 +452,7 @@ uint8_t zk_step80(uint64_t x, uint16_t xw, uint64_t y, uint16_t yw, uint32_t siz
     if (fault("step-writes-a-byte-more") && zk_is_answer(number))
         block[ZK_BLOCK_LENGTH] = 0;
     if (fault("step-part-of-four-lost") && number == ZK_PARTIAL && block[11] == 4)
-        block[11] = 0; /* a part of four is lost */
+        tell(block, quotient - 4); /* a part of four is lost */
     if (fault("step-zero-loses-its-sign") && number == ZK_PARTIAL && zk_block_significand(block) == 0)
         block[9] = 0; /* the sign of a zero partial value */
     if (fault("step-zero-finishes") && number == ZK_PARTIAL && zk_block_significand(block) == 0)
@@ -242,7 +464,9 @@ uint8_t zk_step80(uint64_t x, uint16_t xw, uint64_t y, uint16_t yw, uint32_t siz
 
 uint8_t zk_run80(uint64_t x, uint16_t xw, uint64_t y, uint16_t yw, uint32_t size, uint32_t kind, uint32_t budget, uint8_t *block,
                         size_t length) {
-    uint8_t number, before[ZK_BLOCK_LENGTH];
+    int of_the_last = fault("run-quotient-of-the-last-step"), not_folded = fault("run-sum-is-not-folded");
+    uint8_t number, whole[ZK_BLOCK_LENGTH], lent[4] = {0};
+    uint32_t quotient;
     if (fault("run-budget-0-is-1") && budget == 0)
         budget = 1;
     if (fault("run-budget-cut-to-16-bits"))
@@ -258,6 +482,16 @@ uint8_t zk_run80(uint64_t x, uint16_t xw, uint64_t y, uint16_t yw, uint32_t size
     mistake(&x, &xw, fault("run-pseudo-denormal-refused"), fault("run-pseudo-denormal-is-denormal"), 0);
     mistake(&y, &yw, fault("run-pseudo-denormal-divisor-refused"), fault("run-pseudo-denormal-divisor-is-denormal"),
             fault("run-pseudo-denormal-divisor-is-zero"));
+    if (fault("run-block-of-16-bytes-taken") && length == 16) {
+        number = real_zk_run80(x, xw, y, yw, size, kind, budget, whole, sizeof whole);
+        if (zk_is_answer(number))
+            memcpy(block, whole, 16);
+        return number;
+    }
+    if (fault("run-block-of-20-bytes-refused") && length == 20)
+        return ZK_BAD_LENGTH;
+    if (length == ZK_BLOCK_LENGTH)
+        memcpy(lent, block + 16, 4);
     number = real_zk_run80(x, xw, y, yw, size, kind, budget, block, length);
     if (number == ZK_FINISHED && keeps(x, xw, yw, zk_block_significand(block), fault("run-pseudo-denormal-kept-by-infinity"),
                                        fault("run-pseudo-denormal-kept-by-a-number")))
@@ -272,17 +506,30 @@ uint8_t zk_run80(uint64_t x, uint16_t xw, uint64_t y, uint16_t yw, uint32_t size
         memset(block, 0, 10);
     if (fault("run-spent-after-two-steps-finishes") && number == ZK_SPENT && zk_block_steps(block) > 1)
         return block[10] = ZK_FINISHED;
-    if (fault("run-bits-of-the-last-step") && number == ZK_FINISHED && zk_block_steps(block) > 1) {
-        /* the bits of the last step alone */
-        real_zk_run80(x, xw, y, yw, size, kind, zk_block_steps(block) - 1, before, sizeof before);
-        block[11] = (block[11] - before[11]) & 7;
+    quotient = zk_is_answer(number) ? zk_block_quotient(block) : 0;
+    if ((of_the_last || not_folded) && zk_is_answer(number) && zk_block_steps(block) > 1) {
+        uint32_t before, last;
+        real_zk_run80(x, xw, y, yw, size, kind, zk_block_steps(block) - 1, whole, sizeof whole);
+        before = zk_block_quotient(whole);
+        last = (quotient - before) % ZK_QUOTIENT_MODULUS;
+        tell(block, of_the_last ? last : before + last);
+    }
+    if (fault("run-parts-added-modulo-8") && zk_is_answer(number) && zk_block_steps(block) > 1)
+        tell(block, quotient % 8);
+    if (zk_is_answer(number)) {
+        uint32_t told = of_bits(quotient, y, fault("run-quotient-of-three-bits"), fault("run-quotient-of-30-bits"),
+                                fault("run-quotient-of-32-bits"));
+        if (told != quotient)
+            tell(block, told);
+        spoil_octant(block, fault("run-octant-of-four-bits"), fault("run-octant-of-eight-bits"));
+        spoil_quotient(block, lent, fault("run-quotient-big-endian"), fault("run-quotient-not-written"));
     }
     if (fault("run-spent-by-its-last-step") && number == ZK_FINISHED && zk_block_steps(block) == budget)
         return block[10] = ZK_SPENT; /* spent by its last step */
-    if (fault("run-spent-after-two-steps-has-no-bits") && number == ZK_SPENT && zk_block_steps(block) > 1)
-        block[11] = 0;
-    if (fault("run-bits-as-the-control-word-rounds") && zk_is_answer(number) && (x87_control() & 0x0C00) != 0)
-        block[11] ^= 1;
+    if (fault("run-spent-after-two-steps-has-no-quotient") && number == ZK_SPENT && zk_block_steps(block) > 1)
+        tell(block, 0);
+    if (fault("run-quotient-as-the-control-word-rounds") && zk_is_answer(number) && (x87_control() & 0x0C00) != 0)
+        tell(block, quotient ^ 1);
     if (fault("run-steps-cut-to-10-bits") && zk_is_answer(number))
         block[13] &= 3;
     if (fault("run-a-step-too-many") && zk_is_answer(number) && zk_block_steps(block) > 511)
@@ -481,6 +728,8 @@ uint8_t zk_split80(uint64_t x, uint16_t xw, uint64_t *significand, uint16_t *sig
 uint8_t zk_fold64(const uint64_t *x, size_t nx, uint64_t *results, size_t nr, uint8_t *quotients, size_t nq, uint64_t y,
                          uint32_t kind, size_t *marked) {
     uint8_t number;
+    uint64_t whole;
+    uint32_t quotient;
     size_t i;
     if (fault("fold-lengths-compared-in-a-byte") && (nx & 255) == (nr & 255) && (nx & 255) == (nq & 255))
         nx = nr = nq = nx < nr ? (nx < nq ? nx : nq) : (nr < nq ? nr : nq);
@@ -498,6 +747,8 @@ uint8_t zk_fold64(const uint64_t *x, size_t nx, uint64_t *results, size_t nr, ui
     for (i = 0; number == ZK_FINISHED && i < nx; i++) {
         if (fault("fold-bits-of-the-first-places") && i > 30)
             quotients[i] = 0; /* bits of the first places alone */
+        if (fault("fold-byte-of-eight-bits") && quotients[i] != ZK_MARK && real_zk_rem64(x[i], y, kind, &whole, &quotient) == ZK_FINISHED)
+            quotients[i] = (uint8_t)quotient; /* all that there is room for, and not the quotient modulo 8 */
         if (fault("fold-mark-is-negative") && quotients[i] == ZK_MARK)
             results[i] |= sign64; /* the processor's NaN, which is negative */
         if (fault("fold-flushes-as-the-processor-does") && quotients[i] != ZK_MARK)
@@ -527,18 +778,6 @@ uint8_t zk_fold64(const uint64_t *x, size_t nx, uint64_t *results, size_t nr, ui
 /* ---- stem files */
 
 enum { PERIOD = 10, ORIGIN = 18, COPIED = 26 + 16 * 4200 };
-
-static uint64_t little(const uint8_t *bytes, int n) {
-    uint64_t number = 0;
-    while (n-- > 0)
-        number = number << 8 | bytes[n];
-    return number;
-}
-
-static void put(uint8_t *bytes, uint64_t number, int n) {
-    for (; n > 0; n--, number >>= 8)
-        *bytes++ = (uint8_t)number;
-}
 
 static int is_nan(uint64_t pattern) {
     return (pattern & ~sign64) > infinity64;

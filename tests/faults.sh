@@ -10,11 +10,11 @@ shift 2
 [ $# -gt 0 ] || set -- $(grep -o 'fault("[^"]*")' tests/faults.c | cut -d '"' -f 2)
 programs='untouched stems stem_writer modes chains fold ldexp libm half fprem'
 comparisons='--test folds --test half --test halves --test lists --test published --test readings --test runs --test sequence --test stems --test vectors'
-# what a refusal writes into a single lent number stays inside the safe Rust functions, which have no kind but 0 and 1 and no turn with an
-# origin; lists, blocks, files and rooms of 2^32 places, what lies outside of a file, a list or a room, bytes that are written and put
-# back, memory and floating-point environments are not for a test in Rust
-c_only='rem16-refusal-writes rem64-refusal-writes scale16-refusal-writes scale80-refusal-writes split64-refusal-writes fold-refusal-writes
-    rem16-only-1-is-nearest step-only-1-is-nearest run-only-1-is-nearest fold-only-1-is-nearest rem32-other-kinds-write-more
+# but for remainders and the writer, what a refusal writes into a single lent number stays inside the safe Rust functions, which have no
+# kind but 0 and 1 and no turn with an origin; lists, blocks, files and rooms of 2^32 places, what lies outside of a file, a list or a
+# room, bytes that are written and put back, memory and floating-point environments are not for a test in Rust
+c_only='scale16-refusal-writes scale80-refusal-writes split64-refusal-writes fold-refusal-writes
+    step-only-1-is-nearest run-only-1-is-nearest fold-only-1-is-nearest
     step-length-cut-to-32-bits run-length-cut-to-32-bits fold-lengths-compared-in-32-bits
     stem-open-refusal-writes-the-count stem-open-refusal-writes-the-kind stem-open-refusal-writes-the-start
     stem-open-writes-behind-the-kind stem-fold-refusal-writes stem-fold-writes-the-radius stem-open-file-written
@@ -22,7 +22,8 @@ c_only='rem16-refusal-writes rem64-refusal-writes scale16-refusal-writes scale80
     stem-open-reads-a-byte-more stem-open-reads-a-byte-before stem-open-reads-26-bytes-of-any-file
     stem-open-reads-the-last-point-of-the-count stem-open-asks-for-memory stem-open-keeps-memory
     rem32-last-bit-as-the-rounding-mode-says rem64-zero-divisor-is-divided-by rem16-leaves-another-precision
-    step-c0-lost-in-another-precision run-bits-as-the-control-word-rounds scale80-rounded-as-the-control-word-says
+    remquo64-sign-as-the-processor-compares remquo32-leaves-another-rounding-mode
+    step-c0-lost-in-another-precision run-quotient-as-the-control-word-rounds scale80-rounded-as-the-control-word-says
     split32-zero-as-the-processor-compares split16-leaves-another-rounding-mode split80-pseudo-denormal-in-the-x87-unit
     fold-flushes-as-the-processor-does
     stem-open-period-compared-by-the-processor stem-fold-rounds-as-the-processor-does stem-fold-flushes-as-the-processor-does

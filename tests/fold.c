@@ -1,6 +1,6 @@
 /*
- * Lists of up to 4,096 places against the remainder of each place in one call. Half of the places are a few halves of the divisor, so that
- * ties come up, and one in sixteen is marked.
+ * Lists of up to 4,096 places against the remainder of each place in one call, with its quotient modulo 8. Most of the places are up to 64
+ * halves of the divisor, so that ties and quotients above 8 come up, and one in sixteen is marked.
  *
  *   fold [LISTS [SEED]]
  */
@@ -27,7 +27,7 @@ static int compare_place(size_t i, uint64_t x, uint64_t y, uint32_t kind, uint64
     struct pattern px = {x, 0}, py = {y, 0};
     struct reply r = call_rem(BINARY64, px, py, kind);
     int marked = !zk_is_answer(r.number);
-    if (result != (marked ? ZK_HOUSE_NAN64 : r.value.bits) || byte != (marked ? ZK_MARK : r.quotient))
+    if (result != (marked ? ZK_HOUSE_NAN64 : r.value.bits) || byte != (marked ? ZK_MARK : r.quotient % 8))
         differ(i, "the list's answer is not the one-call remainder");
     return marked;
 }

@@ -1,6 +1,7 @@
 /*
  * Steps and runs against the processor's own FPREM and FPREM1, scaling against FSCALE, splitting against FXTRACT. x86-64 only.
- * All four take pseudo-denormals, and give the ordinary pattern also where the value of their operand comes back.
+ * All four take pseudo-denormals, and give the ordinary pattern also where the value of their operand comes back. Three flags of a finished
+ * step are its quotient modulo 8; the processor shows no more of it.
  *
  *   fprem [PAIRS [SEED [PLACES]]]    so many of each, then scalings around halves, by up to PLACES places (130)
  */
@@ -89,8 +90,8 @@ static struct {
 static void print_step(const char *what, struct pattern x, struct pattern y, uint32_t kind, struct pattern theirs, struct flags c,
                        struct reply ours) {
     printf("%s %s by %s kind %u:\n", what, text(X87, x), text(X87, y), (unsigned)kind);
-    printf("  zukemoriha %s quotient %u number %u steps %u%s\n", text(X87, ours.value), (unsigned)ours.quotient, ours.number,
-           (unsigned)ours.steps, ours.touched ? ", wrote where it may not" : "");
+    printf("  zukemoriha %s quotient %lu octant %u number %u steps %lu%s\n", text(X87, ours.value), (unsigned long)ours.quotient,
+           ours.octant, ours.number, (unsigned long)ours.steps, ours.touched ? ", wrongly written" : "");
     printf("  processor  %s C0 %d C3 %d C1 %d C2 %d\n", text(X87, theirs), c.c0, c.c3, c.c1, c.c2);
 }
 
@@ -125,8 +126,8 @@ static int compare_step(struct pattern x, struct pattern y, uint32_t kind, uint3
     } else {
         count.finished++;
         *ours = call_step(x, y, size, kind, ZK_BLOCK_LENGTH);
-        right = ours->number == ZK_FINISHED && same(ours->value, theirs) && zk_c0(ours->quotient) == c.c0 &&
-                zk_c3(ours->quotient) == c.c3 && zk_c1(ours->quotient) == c.c1 && ours->quotient < 8 && ours->steps == 1;
+        right = ours->number == ZK_FINISHED && same(ours->value, theirs) && zk_c0(ours->octant) == c.c0 && zk_c3(ours->octant) == c.c3 &&
+                zk_c1(ours->octant) == c.c1 && ours->quotient % 8 == ours->octant && ours->steps == 1;
     }
     right = right && !ours->touched;
     if (!right && differs())
@@ -134,22 +135,23 @@ static int compare_step(struct pattern x, struct pattern y, uint32_t kind, uint3
     return right;
 }
 
-/* The processor to its end, each step compared, then the run and the one-call remainder of the library with that end. */
+/* The processor to its end, each step compared, then the run and the one-call remainders of the library with that end. */
 static void compare_chain(struct pattern first, struct pattern y, uint32_t kind, uint32_t size) {
     struct pattern x = first, end;
     struct flags c;
-    struct reply step, run, rem;
+    struct reply step, run, rem, remquo;
     uint32_t parts = 0;
     do {
         end = processor_step(x, y, kind, &c);
         if (!compare_step(x, y, kind, size, end, c, &step))
             return;
-        parts = (parts + step.quotient) & 7;
+        parts = (parts + step.quotient) % ZK_QUOTIENT_MODULUS;
         x = end;
     } while (c.c2);
     count.chains++;
     run = call_run(first, y, size, kind, UINT32_MAX, ZK_BLOCK_LENGTH);
     rem = call_rem(X87, first, y, kind);
+    remquo = call_remquo(X87, first, y, kind);
     /* the parts that the processor took add up to the whole quotient, whatever sizes it took them in */
     if (run.number != 0 || run.touched || !same(run.value, end) || run.quotient != parts)
         if (differs())
@@ -157,6 +159,11 @@ static void compare_chain(struct pattern first, struct pattern y, uint32_t kind,
     if (rem.number != 0 || rem.touched || !same(rem.value, end) || rem.quotient != parts)
         if (differs())
             print_step("remainder of", first, y, kind, end, c, rem);
+    if (remquo.number != 0 || remquo.touched || !same(remquo.value, end) || remquo.signed_quotient != with_sign(X87, first, y, parts))
+        if (differs()) {
+            print_step("remquo of", first, y, kind, end, c, remquo);
+            printf("  its quotient %ld, of the steps %lu\n", (long)remquo.signed_quotient, (unsigned long)parts);
+        }
 }
 
 /* What the library refuses, the processor answers with a NaN, and with nothing else. */

@@ -1,6 +1,6 @@
 /*
- * binary16 by binary16, both kinds, against whole-number division, and binary16 scaled by every power that tells something: every finite
- * binary16 value is a count of 2^-24 below 2^40, so that the scope's definition can be run as it is written.
+ * binary16 by binary16, both kinds, rem and remquo, against whole-number division, and binary16 scaled by every power that tells something:
+ * every finite binary16 value is a count of 2^-24 below 2^40, so that the scope's definition can be run as it is written.
  *
  *   half [STRIDE]    every STRIDE-th divisor for each dividend (251); 1 is all 2^32 pairs
  */
@@ -36,6 +36,8 @@ struct remainder {
     uint32_t quotient;
 };
 
+static uint64_t cut_quotients; /* that were 2^31 and more */
+
 static struct remainder expected(unsigned x, unsigned y, int nearest) {
     uint64_t n = counts[x], m = counts[y], q, left;
     struct remainder r = {(uint16_t)x, 0};
@@ -50,22 +52,40 @@ static struct remainder expected(unsigned x, unsigned y, int nearest) {
         q++;
     }
     r.value = (uint16_t)(pattern_of(left) | ((x & SIGN) ^ (turned ? SIGN : 0)));
-    r.quotient = (uint32_t)(q % 8);
+    r.quotient = (uint32_t)(q % ZK_QUOTIENT_MODULUS);
+    cut_quotients += q >= ZK_QUOTIENT_MODULUS;
     return r;
 }
 
 /* Memory lent on refusals is another test's: here the two places are as they were or as expected. */
-static void compare(unsigned x, unsigned y, int nearest) {
-    int number = number_of(x, y);
-    struct remainder want = {0xA5A5, 0xA5A5A5A5}, got = {0xA5A5, 0xA5A5A5A5};
+static void compare_rem(unsigned x, unsigned y, int nearest, int number, struct remainder want) {
+    struct remainder got = {0xA5A5, 0x25A5A5A5};
     uint8_t got_number = zk_rem16((uint16_t)x, (uint16_t)y, (uint32_t)nearest, &got.value, &got.quotient);
-    if (number == 0)
-        want = expected(x, y, nearest);
     if (got_number == number && got.value == want.value && got.quotient == want.quotient)
         return;
     if (differs())
-        printf("%04X by %04X kind %d:\n  zukemoriha %04X quotient %u number %u\n  expected   %04X quotient %u number %d\n", x, y, nearest,
-               got.value, (unsigned)got.quotient, got_number, want.value, (unsigned)want.quotient, number);
+        printf("%04X by %04X kind %d:\n  zukemoriha %04X quotient %lu number %u\n  expected   %04X quotient %lu number %d\n", x, y,
+               nearest, got.value, (unsigned long)got.quotient, got_number, want.value, (unsigned long)want.quotient, number);
+}
+
+static void compare_remquo(unsigned x, unsigned y, int nearest, int number, struct remainder want) {
+    int32_t quotient = number == 0 && (x & SIGN) != (y & SIGN) ? -(int32_t)want.quotient : (int32_t)want.quotient, got = 0x25A5A5A5;
+    uint16_t value = 0xA5A5;
+    uint8_t got_number = zk_remquo16((uint16_t)x, (uint16_t)y, (uint32_t)nearest, &value, &got);
+    if (got_number == number && value == want.value && got == quotient)
+        return;
+    if (differs())
+        printf("remquo of %04X by %04X kind %d:\n  zukemoriha %04X quotient %ld number %u\n  expected   %04X quotient %ld number %d\n", x,
+               y, nearest, value, (long)got, got_number, want.value, (long)quotient, number);
+}
+
+static void compare(unsigned x, unsigned y, int nearest) {
+    struct remainder want = {0xA5A5, 0x25A5A5A5};
+    int number = number_of(x, y);
+    if (number == 0)
+        want = expected(x, y, nearest);
+    compare_rem(x, y, nearest, number, want);
+    compare_remquo(x, y, nearest, number, want);
 }
 
 struct scaled {
@@ -153,7 +173,7 @@ int main(int argc, char **argv) {
             compare(x, y, 0);
             compare(x, y, 1);
         }
-    printf("binary16: %" PRIu64 " pairs, both kinds\n", pairs);
+    printf("binary16: %" PRIu64 " pairs, both kinds; %" PRIu64 " quotients from 2^31 on\n", pairs, cut_quotients);
     next_part();
     compare_scalings();
     return verdict();

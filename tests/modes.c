@@ -24,10 +24,10 @@ int main(void) {
 
 /* ---- questions and answers */
 
-enum { REM, STEP, RUN, SCALE, SPLIT, FOLD, OPEN, STEM_FOLD, STEM_WRITE, OPERATIONS };
+enum { REM, REMQUO, STEP, RUN, SCALE, SPLIT, FOLD, OPEN, STEM_FOLD, STEM_WRITE, OPERATIONS };
 
-static const char *const operation_names[OPERATIONS] = {"remainder", "step",      "run",        "scaling",     "split",
-                                                        "list",      "stem file", "stem point", "written file"};
+static const char *const operation_names[OPERATIONS] = {"remainder", "remquo", "step",      "run",        "scaling",
+                                                        "split",     "list",   "stem file", "stem point", "written file"};
 
 enum { PLACES_OF_LIST = 4, FILE_LENGTH = ZK_STEM_HEADER + ZK_STEM_POINT, LONGEST_ROOM = FILE_LENGTH + 8, NUMBERS = ZK_STEM_ROOM + 1 };
 
@@ -52,16 +52,24 @@ struct answer {
 };
 
 static void answer_of_reply(struct answer *a, struct reply r) {
-    const uint64_t values[8] = {r.value.bits, r.value.word, r.quotient, r.steps, (uint64_t)r.says, (uint64_t)(int64_t)r.exponent, 0, 0};
+    const uint64_t values[8] = {r.value.bits,
+                                r.value.word,
+                                r.quotient,
+                                (uint64_t)(int64_t)r.signed_quotient,
+                                r.octant,
+                                r.steps,
+                                (uint64_t)r.says,
+                                (uint64_t)(int64_t)r.exponent};
     a->number = r.number;
     a->touched = (uint64_t)r.touched;
     memcpy(a->values, values, sizeof values);
 }
 
+/* Where a block would be a byte short, the list of quotients is. */
 static void ask_list(const struct question *q, struct answer *a) {
     uint8_t bytes[PLACES_OF_LIST] = {0};
-    size_t marked = 0;
-    a->number = zk_fold64(q->list, PLACES_OF_LIST, a->values, PLACES_OF_LIST, bytes, q->length / 4, q->y.bits, q->kind, &marked);
+    size_t bytes_lent = q->length == ZK_BLOCK_LENGTH ? PLACES_OF_LIST : PLACES_OF_LIST - 1, marked = 0;
+    a->number = zk_fold64(q->list, PLACES_OF_LIST, a->values, PLACES_OF_LIST, bytes, bytes_lent, q->y.bits, q->kind, &marked);
     memcpy(a->values + PLACES_OF_LIST, bytes, sizeof bytes);
     a->values[PLACES_OF_LIST + 1] = marked;
 }
@@ -90,6 +98,7 @@ static void ask(const struct question *q, struct answer *a) {
     memset(a, 0, sizeof *a);
     switch (q->operation) {
     case REM: answer_of_reply(a, call_rem(q->format, q->x, q->y, q->kind)); break;
+    case REMQUO: answer_of_reply(a, call_remquo(q->format, q->x, q->y, q->kind)); break;
     case STEP: answer_of_reply(a, call_step(q->x, q->y, q->size, q->kind, q->length)); break;
     case RUN: answer_of_reply(a, call_run(q->x, q->y, q->size, q->kind, q->budget, q->length)); break;
     case SCALE: answer_of_reply(a, call_scale(q->format, q->x, q->power)); break;
@@ -269,7 +278,7 @@ static void print_numbers(const struct answer *answers, uint64_t cases) {
 }
 
 int main(int argc, char **argv) {
-    uint64_t cases = pairs_asked(argc, argv, 18000), state = seed_asked(argc, argv), i;
+    uint64_t cases = pairs_asked(argc, argv, 20000), state = seed_asked(argc, argv), i;
     struct question *questions = (struct question *)malloc(cases * sizeof *questions);
     struct answer *answers = (struct answer *)malloc(cases * sizeof *answers);
     struct environment usual = present();

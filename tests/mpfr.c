@@ -1,6 +1,7 @@
 /*
- * Remainders against MPFR, which computes with whole numbers of any length: all four formats, both kinds, with quotient bits. MPFR also
- * says whether its 64-bit result is exact, as every remainder of two values of a format has to be.
+ * Remainders, rem's and remquo's, against MPFR, which computes with whole numbers of any length: all four formats, both kinds. It gives the
+ * quotient's low bits, one less than a long has, with the sign of x/y: all 31 are compared. MPFR also says whether its 64-bit result is
+ * exact, as every remainder of two values of a format has to be.
  *
  *   mpfr [PAIRS [SEED]]    PAIRS of operands for each format; those that are not finite, or whose divisor is zero, are passed over
  */
@@ -47,20 +48,29 @@ static struct pattern pattern_of(int f, const mpfr_t r) {
     return encode(f, o);
 }
 
+static void print_theirs(int f, struct pattern theirs, long quotient, int rounded) {
+    printf("  MPFR       %s quotient %ld%s\n", text(f, theirs), quotient, rounded ? ", rounded" : "");
+}
+
 static void compare(int f, struct pair p, const mpfr_t x, const mpfr_t y, mpfr_t r, uint32_t kind) {
-    struct reply ours = call_rem(f, p.x, p.y, kind);
+    struct reply ours = call_rem(f, p.x, p.y, kind), of_remquo = call_remquo(f, p.x, p.y, kind);
     struct pattern theirs;
-    uint32_t bits;
-    long q = 0;
+    long q = 0, bits;
     int rounded = kind == ZK_TRUNCATED ? mpfr_fmodquo(r, &q, x, y, MPFR_RNDN) : mpfr_remquo(r, &q, x, y, MPFR_RNDN);
     theirs = pattern_of(f, r);
-    bits = (uint32_t)(q < 0 ? 0ul - (unsigned long)q : (unsigned long)q) & 7;
-    if (ours.number == 0 && !ours.touched && !rounded && same(ours.value, theirs) && ours.quotient == bits)
-        return;
-    if (differs())
-        printf("%s %s by %s kind %u:\n  zukemoriha %s quotient %u number %u\n  MPFR       %s quotient %u%s\n", formats[f].name, text(f, p.x),
-               text(f, p.y), (unsigned)kind, text(f, ours.value), (unsigned)ours.quotient, ours.number, text(f, theirs), (unsigned)bits,
-               rounded ? ", rounded" : "");
+    bits = q % (long)ZK_QUOTIENT_MODULUS; /* with q's sign */
+    if (ours.number || ours.touched || rounded || !same(ours.value, theirs) || ours.quotient != (unsigned long)labs(bits))
+        if (differs()) {
+            printf("%s %s by %s kind %u:\n  zukemoriha %s quotient %lu number %u\n", formats[f].name, text(f, p.x), text(f, p.y),
+                   (unsigned)kind, text(f, ours.value), (unsigned long)ours.quotient, ours.number);
+            print_theirs(f, theirs, bits, rounded);
+        }
+    if (of_remquo.number || of_remquo.touched || !same(of_remquo.value, theirs) || of_remquo.signed_quotient != bits)
+        if (differs()) {
+            printf("remquo of %s %s by %s kind %u:\n  zukemoriha %s quotient %ld number %u\n", formats[f].name, text(f, p.x), text(f, p.y),
+                   (unsigned)kind, text(f, of_remquo.value), (long)of_remquo.signed_quotient, of_remquo.number);
+            print_theirs(f, theirs, bits, rounded);
+        }
 }
 
 static void compare_format(int f, uint64_t pairs, uint64_t seed) {

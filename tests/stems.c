@@ -311,7 +311,7 @@ static int rounding_of(volatile double reading, volatile double origin, volatile
 /* What C says of a point: one subtraction, then fmod. */
 static struct reply theirs(struct point p, int *outcome) {
     volatile double reading = zk_double_of_pattern(p.reading), origin = zk_double_of_pattern(p.origin), left = reading;
-    struct reply r = {0, {0, 0}, 0, 0, 0, 0, 0};
+    struct reply r = {0};
     if (p.kind > 1 || !gauge_is_good(p)) {
         r.number = p.kind > 1 ? 12 : 15;
         *outcome = p.kind > 1 ? OTHER_KIND : BAD_GAUGE;

@@ -98,28 +98,38 @@ static void remainders(void) {
             for (y = first_class(f); y < CLASSES; y++)
                 for (kind = 0; kind < 2; kind++) {
                     struct reply r = call_rem(f, samples[f][x], samples[f][y], (uint32_t)kind);
+                    struct reply signed_one = call_remquo(f, samples[f][x], samples[f][y], (uint32_t)kind);
                     check_number(r.number, number_of(x, y), "a remainder", f);
                     check(!r.touched, "memory after a remainder", f);
+                    check_number(signed_one.number, number_of(x, y), "a remquo", f);
+                    check(!signed_one.touched, "memory after a remquo", f);
                 }
 }
 
-/* The same for step and run, with every length and size that is refused before the operands are looked at. */
+/* The same for step and run, with a length and a size that may be refused before the operands are looked at. */
+static void steps_with(struct pattern x, struct pattern y, size_t length, uint32_t size, int number) {
+    int bad_size = size < ZK_SIZE_LEAST || size > ZK_SIZE_MOST;
+    int expected = length != ZK_BLOCK_LENGTH ? ZK_BAD_LENGTH : bad_size ? ZK_BAD_SIZE : number;
+    struct reply step = call_step(x, y, size, ZK_NEAREST, length);
+    struct reply run = call_run(x, y, size, ZK_TRUNCATED, UINT32_MAX, length);
+    struct reply none = call_run(x, y, size, ZK_TRUNCATED, 0, length);
+    check_number(step.number, expected, "a step", X87);
+    check_number(run.number, expected, "a run", X87);
+    check_number(none.number, expected ? expected : ZK_SPENT, "a run with no budget", X87);
+    check(!step.touched && !run.touched && !none.touched, "memory after a step and a run", X87);
+}
+
+/* Every length to twice the block's, 16 among them, which has no room for the quotient; and some that end in the bits of its own. */
 static void steps_of(struct pattern x, struct pattern y, int number) {
-    static const size_t lengths[] = {0, 15, 16, 17, 32, 256, 272, 65552};
+    static const size_t far[] = {256, 256 + ZK_BLOCK_LENGTH, 65536 + ZK_BLOCK_LENGTH};
     static const uint32_t sizes[] = {0, 31, 32, 63, 64, 256 + 40, 65536 + 40, UINT32_C(0x80000000) + 40, UINT32_MAX};
     size_t l, s;
-    for (l = 0; l < sizeof lengths / sizeof *lengths; l++)
-        for (s = 0; s < sizeof sizes / sizeof *sizes; s++) {
-            int bad_size = sizes[s] < ZK_SIZE_LEAST || sizes[s] > ZK_SIZE_MOST;
-            int expected = lengths[l] != ZK_BLOCK_LENGTH ? ZK_BAD_LENGTH : bad_size ? ZK_BAD_SIZE : number;
-            struct reply step = call_step(x, y, sizes[s], ZK_NEAREST, lengths[l]);
-            struct reply run = call_run(x, y, sizes[s], ZK_TRUNCATED, UINT32_MAX, lengths[l]);
-            struct reply none = call_run(x, y, sizes[s], ZK_TRUNCATED, 0, lengths[l]);
-            check_number(step.number, expected, "a step", X87);
-            check_number(run.number, expected, "a run", X87);
-            check_number(none.number, expected ? expected : ZK_SPENT, "a run with no budget", X87);
-            check(!step.touched && !run.touched && !none.touched, "memory after a step and a run", X87);
-        }
+    for (s = 0; s < sizeof sizes / sizeof *sizes; s++) {
+        for (l = 0; l <= 2 * ZK_BLOCK_LENGTH; l++)
+            steps_with(x, y, l, sizes[s], number);
+        for (l = 0; l < sizeof far / sizeof *far; l++)
+            steps_with(x, y, far[l], sizes[s], number);
+    }
 }
 
 /* A normal number by the smallest denormal, or by a pseudo-denormal, is far: its step is partial. */
@@ -137,14 +147,18 @@ static void steps(void) {
     for (i = 0; i < sizeof unsupported / sizeof *unsupported; i++) {
         struct reply dividend = call_rem(X87, unsupported[i], samples[X87][NORMAL], ZK_TRUNCATED);
         struct reply divisor = call_rem(X87, samples[X87][NAN_QUIET], unsupported[i], ZK_NEAREST);
+        struct reply of_remquo = call_remquo(X87, unsupported[i], samples[X87][NORMAL], ZK_NEAREST);
+        struct reply by_remquo = call_remquo(X87, samples[X87][NAN_QUIET], unsupported[i], ZK_TRUNCATED);
         check(dividend.number == ZK_UNSUPPORTED && !dividend.touched, "an unsupported dividend", X87);
         check(divisor.number == ZK_UNSUPPORTED && !divisor.touched, "an unsupported divisor", X87);
+        check(of_remquo.number == ZK_UNSUPPORTED && !of_remquo.touched, "an unsupported dividend of remquo", X87);
+        check(by_remquo.number == ZK_UNSUPPORTED && !by_remquo.touched, "an unsupported divisor of remquo", X87);
         steps_of(unsupported[i], samples[X87][NORMAL], ZK_UNSUPPORTED);
         steps_of(samples[X87][NAN_QUIET], unsupported[i], ZK_UNSUPPORTED);
     }
 }
 
-/* A block of 2^32 + 16 bytes, none of which is written, so that the system need not have them. */
+/* A block of 2^32 + 20 bytes, none of which is written, so that the system need not have them. */
 static void long_block(void) {
     const size_t length = ((size_t)1 << 32) + ZK_BLOCK_LENGTH;
     struct pattern x = samples[X87][NORMAL];
@@ -268,7 +282,7 @@ static void long_lists(void) {
     munmap(room, 8 * far);
 }
 
-/* Blocks to the last byte: value, number, quotient bits, steps. */
+/* Blocks to the last byte: value, number, octant, steps, quotient. */
 struct block_case {
     struct pattern x, y;
     uint32_t size, kind, budget; /* budget 0: a step */
@@ -277,37 +291,48 @@ struct block_case {
 
 #define TOP UINT64_C(0x8000000000000000)
 #define THREE UINT64_C(0xC000000000000000), 0x4000
+/* N * y - 2^31 by y, with y = 2^63 + 1 and N = 2^65 + 2^31 */
+#define BELOW_N UINT64_C(0x8000000020000001), 0x407F
+#define ODD UINT64_C(0x8000000000000001), 0x403E
 
 static const struct block_case block_cases[] = {
-    /* 2^65 by 3, size 63: partial value 2, part 2 */
-    {{TOP, 0x4040}, {THREE}, 63, 0, 0, {0, 0, 0, 0, 0, 0, 0, 0x80, 0x00, 0x40, 1, 2, 1, 0, 0, 0}},
+    /* 2^65 by 3, size 63: partial value 2, part (2^65 - 2) / 3 */
+    {{TOP, 0x4040}, {THREE}, 63, 0, 0, {0, 0, 0, 0, 0, 0, 0, 0x80, 0x00, 0x40, 1, 2, 1, 0, 0, 0, 0xAA, 0xAA, 0xAA, 0x2A}},
     /* ... its end, truncated: 2 by 3 */
-    {{TOP, 0x4000}, {THREE}, 63, 0, 0, {0, 0, 0, 0, 0, 0, 0, 0x80, 0x00, 0x40, 0, 0, 1, 0, 0, 0}},
+    {{TOP, 0x4000}, {THREE}, 63, 0, 0, {0, 0, 0, 0, 0, 0, 0, 0x80, 0x00, 0x40, 0, 0, 1, 0, 0, 0, 0, 0, 0, 0}},
     /* ... and nearest: -1 with quotient 1 */
-    {{TOP, 0x4000}, {THREE}, 63, 1, 0, {0, 0, 0, 0, 0, 0, 0, 0x80, 0xFF, 0xBF, 0, 1, 1, 0, 0, 0}},
-    /* ... as one run, truncated: total 2 in two steps */
-    {{TOP, 0x4040}, {THREE}, 63, 0, 9, {0, 0, 0, 0, 0, 0, 0, 0x80, 0x00, 0x40, 0, 2, 2, 0, 0, 0}},
-    /* ... and nearest: total 3 */
-    {{TOP, 0x4040}, {THREE}, 63, 7, 9, {0, 0, 0, 0, 0, 0, 0, 0x80, 0xFF, 0xBF, 0, 3, 2, 0, 0, 0}},
+    {{TOP, 0x4000}, {THREE}, 63, 1, 0, {0, 0, 0, 0, 0, 0, 0, 0x80, 0xFF, 0xBF, 0, 1, 1, 0, 0, 0, 1, 0, 0, 0}},
+    /* ... as one run, truncated: the part alone, in two steps */
+    {{TOP, 0x4040}, {THREE}, 63, 0, 9, {0, 0, 0, 0, 0, 0, 0, 0x80, 0x00, 0x40, 0, 2, 2, 0, 0, 0, 0xAA, 0xAA, 0xAA, 0x2A}},
+    /* ... and nearest: one more */
+    {{TOP, 0x4040}, {THREE}, 63, 7, 9, {0, 0, 0, 0, 0, 0, 0, 0x80, 0xFF, 0xBF, 0, 3, 2, 0, 0, 0, 0xAB, 0xAA, 0xAA, 0x2A}},
     /* ... with a budget of one step: spent, at the partial value */
-    {{TOP, 0x4040}, {THREE}, 63, 0, 1, {0, 0, 0, 0, 0, 0, 0, 0x80, 0x00, 0x40, 7, 2, 1, 0, 0, 0}},
-    /* 2^65 by 3, size 32: partial value 2^33, part 0 */
-    {{TOP, 0x4040}, {THREE}, 32, 0, 0, {0, 0, 0, 0, 0, 0, 0, 0x80, 0x20, 0x40, 1, 0, 1, 0, 0, 0}},
+    {{TOP, 0x4040}, {THREE}, 63, 0, 1, {0, 0, 0, 0, 0, 0, 0, 0x80, 0x00, 0x40, 7, 2, 1, 0, 0, 0, 0xAA, 0xAA, 0xAA, 0x2A}},
+    /* 2^65 by 3, size 32: partial value 2^33, the part a multiple of 2^32 */
+    {{TOP, 0x4040}, {THREE}, 32, 0, 0, {0, 0, 0, 0, 0, 0, 0, 0x80, 0x20, 0x40, 1, 0, 1, 0, 0, 0, 0, 0, 0, 0}},
+    /* just below N, size 63: partial value 4 * y - 2^31, part N - 4 */
+    {{BELOW_N}, {ODD}, 63, 1, 0, {2, 0, 0, 0xC0, 0xFF, 0xFF, 0xFF, 0xFF, 0x3F, 0x40, 1, 4, 1, 0, 0, 0, 0xFC, 0xFF, 0xFF, 0x7F}},
+    /* ... as one run, truncated: the quotient N - 1 is all ones */
+    {{BELOW_N}, {ODD}, 63, 0, 9, {2, 0, 0, 0, 0xFF, 0xFF, 0xFF, 0xFF, 0x3D, 0x40, 0, 7, 2, 0, 0, 0, 0xFF, 0xFF, 0xFF, 0x7F}},
+    /* ... and nearest: the parts N - 4 and 4 are nothing modulo 2^31 */
+    {{BELOW_N}, {ODD}, 63, 1, 9, {0, 0, 0, 0, 0, 0, 0, 0x80, 0x1E, 0xC0, 0, 0, 2, 0, 0, 0, 0, 0, 0, 0}},
+    /* ... size 32: so are the parts 2^65 and 2^31 */
+    {{BELOW_N}, {ODD}, 32, 1, 9, {0, 0, 0, 0, 0, 0, 0, 0x80, 0x1E, 0xC0, 0, 0, 2, 0, 0, 0, 0, 0, 0, 0}},
     /* 2^63 by 1 takes one step, 2^64 by 1 two: a zero partial value does not end a run */
-    {{TOP, 0x403E}, {TOP, 0x3FFF}, 32, 0, 9, {0, 0, 0, 0, 0, 0, 0, 0, 0, 0, 0, 0, 1, 0, 0, 0}},
-    {{TOP, 0x403F}, {TOP, 0x3FFF}, 32, 0, 9, {0, 0, 0, 0, 0, 0, 0, 0, 0, 0, 0, 0, 2, 0, 0, 0}},
+    {{TOP, 0x403E}, {TOP, 0x3FFF}, 32, 0, 9, {0, 0, 0, 0, 0, 0, 0, 0, 0, 0, 0, 0, 1, 0, 0, 0, 0, 0, 0, 0}},
+    {{TOP, 0x403F}, {TOP, 0x3FFF}, 32, 0, 9, {0, 0, 0, 0, 0, 0, 0, 0, 0, 0, 0, 0, 2, 0, 0, 0, 0, 0, 0, 0}},
     /* -2^64 by 1: the zero partial value is a negative one, and partial */
-    {{TOP, 0xC03F}, {TOP, 0x3FFF}, 32, 0, 0, {0, 0, 0, 0, 0, 0, 0, 0, 0, 0x80, 1, 0, 1, 0, 0, 0}},
+    {{TOP, 0xC03F}, {TOP, 0x3FFF}, 32, 0, 0, {0, 0, 0, 0, 0, 0, 0, 0, 0, 0x80, 1, 0, 1, 0, 0, 0, 0, 0, 0, 0}},
     /* the largest finite by the smallest denormal, size 32: three steps */
-    {{UINT64_C(0xFFFFFFFFFFFFFFFF), 0x7FFE}, {1, 0}, 32, 0, UINT32_MAX, {0, 0, 0, 0, 0, 0, 0, 0, 0, 0, 0, 0, 3, 0, 0, 0}},
+    {{UINT64_C(0xFFFFFFFFFFFFFFFF), 0x7FFE}, {1, 0}, 32, 0, UINT32_MAX, {0, 0, 0, 0, 0, 0, 0, 0, 0, 0, 0, 0, 3, 0, 0, 0, 0, 0, 0, 0}},
     /* by infinity: x itself, with each byte of it in its place */
     {{UINT64_C(0x8877665544332211), 0x9234}, {TOP, 0x7FFF}, 32, 1, 0,
-     {0x11, 0x22, 0x33, 0x44, 0x55, 0x66, 0x77, 0x88, 0x34, 0x92, 0, 0, 1, 0, 0, 0}},
+     {0x11, 0x22, 0x33, 0x44, 0x55, 0x66, 0x77, 0x88, 0x34, 0x92, 0, 0, 1, 0, 0, 0, 0, 0, 0, 0}},
     /* ... and a pseudo-denormal: its ordinary pattern */
     {{UINT64_C(0x8877665544332211), 0x8000}, {TOP, 0x7FFF}, 32, 1, 0,
-     {0x11, 0x22, 0x33, 0x44, 0x55, 0x66, 0x77, 0x88, 0x01, 0x80, 0, 0, 1, 0, 0, 0}},
+     {0x11, 0x22, 0x33, 0x44, 0x55, 0x66, 0x77, 0x88, 0x01, 0x80, 0, 0, 1, 0, 0, 0, 0, 0, 0, 0}},
     /* one pseudo-denormal by another, a place smaller: that place is left */
-    {{TOP | 1, 0x8000}, {TOP, 0}, 32, 0, 9, {1, 0, 0, 0, 0, 0, 0, 0, 0x00, 0x80, 0, 1, 1, 0, 0, 0}},
+    {{TOP | 1, 0x8000}, {TOP, 0}, 32, 0, 9, {1, 0, 0, 0, 0, 0, 0, 0, 0x00, 0x80, 0, 1, 1, 0, 0, 0, 1, 0, 0, 0}},
 };
 
 static void blocks(void) {
@@ -316,11 +341,11 @@ static void blocks(void) {
         const struct block_case *c = &block_cases[i];
         struct room room;
         uint8_t *block = (uint8_t *)lend(&room);
-        uint8_t number = c->budget ? zk_run80(c->x.bits, c->x.word, c->y.bits, c->y.word, c->size, c->kind, c->budget, block, 16)
-                                   : zk_step80(c->x.bits, c->x.word, c->y.bits, c->y.word, c->size, c->kind, block, 16);
+        uint8_t number = c->budget ? zk_run80(c->x.bits, c->x.word, c->y.bits, c->y.word, c->size, c->kind, c->budget, block, 20)
+                                   : zk_step80(c->x.bits, c->x.word, c->y.bits, c->y.word, c->size, c->kind, block, 20);
         check_number(number, c->block[10], "a written block", X87);
-        check_bytes(block, c->block, 16, "a written block", X87);
-        check(kept(&room, 16), "bytes around a block", X87);
+        check_bytes(block, c->block, 20, "a written block", X87);
+        check(kept(&room, 20), "bytes around a block", X87);
     }
 }
 
@@ -328,20 +353,25 @@ static void blocks(void) {
 static void spent_blocks(void) {
     static const uint8_t steps_300[] = {44, 1, 0, 0};
     struct pattern x = {UINT64_C(0xFFFFFFFFFFFFFFFF), 0x7FFE}, y = {UINT64_C(0xF123456789ABCDEF), 1};
-    struct reply none = call_run(x, y, 32, 0, 0, 16);
+    struct reply none = call_run(x, y, 32, 0, 0, 20);
     struct room room;
     uint8_t *block = (uint8_t *)lend(&room);
     check_number(none.number, ZK_SPENT, "a run with no budget", X87);
     check(same(none.value, x) && none.quotient == 0 && none.steps == 0, "a run with no budget gives the dividend", X87);
-    check_number(zk_run80(x.bits, x.word, y.bits, y.word, 32, 0, 300, block, 16), ZK_SPENT, "a run with a budget of 300", X87);
+    check_number(zk_run80(x.bits, x.word, y.bits, y.word, 32, 0, 300, block, 20), ZK_SPENT, "a run with a budget of 300", X87);
     check_bytes(block + 12, steps_300, 4, "a run with a budget of 300", X87);
 }
 
-/* A remainder that one step finishes, in all three ways to ask for it. */
+/* A remainder that one step finishes, in all ways to ask for it. */
 static void check_finished(struct pattern x, struct pattern y, uint32_t kind, struct pattern value, uint32_t quotient, const char *what) {
     static const char *const names[3] = {"remainder", "step", "run"};
-    const struct reply replies[3] = {call_rem(X87, x, y, kind), call_step(x, y, 32, kind, 16), call_run(x, y, 63, kind, 1, 16)};
+    const struct reply replies[3] = {call_rem(X87, x, y, kind), call_step(x, y, 32, kind, 20), call_run(x, y, 63, kind, 1, 20)};
+    struct reply s = call_remquo(X87, x, y, kind);
     uint32_t i;
+    checks++;
+    if ((s.number || s.touched || !same(s.value, value) || s.signed_quotient != with_sign(X87, x, y, quotient)) && differs())
+        printf("remquo of %s: %s quotient %ld number %u, expected %s quotient %ld (filling %02X)\n", what, text(X87, s.value),
+               (long)s.signed_quotient, s.number, text(X87, value), (long)with_sign(X87, x, y, quotient), filling);
     for (i = 0; i < 3; i++) {
         struct reply r = replies[i];
         checks++;
@@ -376,7 +406,7 @@ static void pseudo_denormal_remainders(struct pattern x, struct pattern ordinary
 
 static void pseudo_denormal_values(struct pattern x, struct pattern ordinary) {
     struct pattern significand = {x.bits, x.word | 0x3FFF};
-    struct reply none = call_run(x, x, 32, 0, 0, 16), scaled = call_scale(X87, x, 0), split = call_split(X87, x);
+    struct reply none = call_run(x, x, 32, 0, 0, 20), scaled = call_scale(X87, x, 0), split = call_split(X87, x);
     struct reply back = call_scale(X87, split.value, split.exponent);
     check(none.number == ZK_SPENT && same(none.value, ordinary) && none.quotient == 0 && none.steps == 0 && !none.touched,
           "a run of a pseudo-denormal with no budget", X87);
@@ -405,13 +435,14 @@ static void kinds(void) {
     int f;
     for (i = 0; i < sizeof numbers / sizeof *numbers; i++) {
         uint32_t quotient = numbers[i] ? 4 : 3;
-        struct reply step = call_step(sevens[X87], twos[X87], 63, numbers[i], 16);
-        struct reply run = call_run(sevens[X87], twos[X87], 63, numbers[i], 1, 16);
+        struct reply step = call_step(sevens[X87], twos[X87], 63, numbers[i], 20);
+        struct reply run = call_run(sevens[X87], twos[X87], 63, numbers[i], 1, 20);
         struct lists l;
         for (f = 0; f < FORMATS; f++) {
             struct reply r = call_rem(f, sevens[f], twos[f], numbers[i]);
             check(r.number == 0 && same(r.value, numbers[i] ? less[f] : ones[f]) && r.quotient == quotient, "a kind", f);
             check(!r.touched, "memory after a kind", f);
+            check(agrees_with_rem(f, sevens[f], twos[f], call_remquo(f, sevens[f], twos[f], numbers[i]), r), "a kind of a remquo", f);
         }
         check(same(step.value, numbers[i] ? less[X87] : ones[X87]) && step.quotient == quotient, "a kind of a step", X87);
         check(same(run.value, numbers[i] ? less[X87] : ones[X87]) && run.quotient == quotient, "a kind of a run", X87);
@@ -419,6 +450,72 @@ static void kinds(void) {
         check(fold(&l, 1, 1, 1, two, numbers[i]) == 0 && l.quotients[FIRST] == quotient, "a kind of a list", BINARY64);
         check(l.x[FIRST] == seven, "the dividends of a list", BINARY64);
     }
+}
+
+/* Operands above zero whose quotient reaches its 31 bits' end, or is 0: what both kinds give. */
+struct quotient_case {
+    int f;
+    struct pattern x, y;
+    struct {
+        struct pattern value;
+        uint32_t quotient;
+    } of[2];
+};
+
+static const struct quotient_case quotient_cases[] = {
+    /* by the smallest place of binary16, and by 1: as much below 2^31 as the format can be, */
+    {BINARY16, {0x57FF, 0}, {1, 0}, {{{0, 0}, 0x7FF00000}, {{0, 0}, 0x7FF00000}}},
+    {BINARY32, {0x4EFFFFFF, 0}, {0x3F800000, 0}, {{{0, 0}, 0x7FFFFF80}, {{0, 0}, 0x7FFFFF80}}},
+    /* which is 2^31 - 1/2, rounded to all ones or to nothing, */
+    {BINARY64, {UINT64_C(0x41DFFFFFFFE00000), 0}, {UINT64_C(0x3FF0000000000000), 0},
+     {{{UINT64_C(0x3FE0000000000000), 0}, 0x7FFFFFFF}, {{UINT64_C(0xBFE0000000000000), 0}, 0}}},
+    {X87, {UINT64_C(0xFFFFFFFF00000000), 0x401D}, {TOP, 0x3FFF}, {{{TOP, 0x3FFE}, 0x7FFFFFFF}, {{TOP, 0xBFFE}, 0}}},
+    /* 2^31, */
+    {BINARY16, {0x5800, 0}, {1, 0}, {{{0, 0}, 0}, {{0, 0}, 0}}},
+    {BINARY32, {0x4F000000, 0}, {0x3F800000, 0}, {{{0, 0}, 0}, {{0, 0}, 0}}},
+    {BINARY64, {UINT64_C(0x41E0000000000000), 0}, {UINT64_C(0x3FF0000000000000), 0}, {{{0, 0}, 0}, {{0, 0}, 0}}},
+    {X87, {TOP, 0x401E}, {TOP, 0x3FFF}, {{{0, 0}, 0}, {{0, 0}, 0}}},
+    /* and 2^31 + 2^30 */
+    {BINARY16, {0x5A00, 0}, {1, 0}, {{{0, 0}, 0x40000000}, {{0, 0}, 0x40000000}}},
+    {BINARY32, {0x4F400000, 0}, {0x3F800000, 0}, {{{0, 0}, 0x40000000}, {{0, 0}, 0x40000000}}},
+    {BINARY64, {UINT64_C(0x41E8000000000000), 0}, {UINT64_C(0x3FF0000000000000), 0}, {{{0, 0}, 0x40000000}, {{0, 0}, 0x40000000}}},
+    {X87, {UINT64_C(0xC000000000000000), 0x401E}, {TOP, 0x3FFF}, {{{0, 0}, 0x40000000}, {{0, 0}, 0x40000000}}},
+    /* 1 by infinity, and the smallest place by 1 */
+    {BINARY16, {0x3C00, 0}, {0x7C00, 0}, {{{0x3C00, 0}, 0}, {{0x3C00, 0}, 0}}},
+    {BINARY32, {0x3F800000, 0}, {0x7F800000, 0}, {{{0x3F800000, 0}, 0}, {{0x3F800000, 0}, 0}}},
+    {BINARY64, {UINT64_C(0x3FF0000000000000), 0}, {UINT64_C(0x7FF0000000000000), 0},
+     {{{UINT64_C(0x3FF0000000000000), 0}, 0}, {{UINT64_C(0x3FF0000000000000), 0}, 0}}},
+    {X87, {TOP, 0x3FFF}, {TOP, 0x7FFF}, {{{TOP, 0x3FFF}, 0}, {{TOP, 0x3FFF}, 0}}},
+    {BINARY16, {1, 0}, {0x3C00, 0}, {{{1, 0}, 0}, {{1, 0}, 0}}},
+    {BINARY32, {1, 0}, {0x3F800000, 0}, {{{1, 0}, 0}, {{1, 0}, 0}}},
+    {BINARY64, {1, 0}, {UINT64_C(0x3FF0000000000000), 0}, {{{1, 0}, 0}, {{1, 0}, 0}}},
+    {X87, {1, 0}, {TOP, 0x3FFF}, {{{1, 0}, 0}, {{1, 0}, 0}}},
+};
+
+static struct pattern negated(int f, struct pattern x, int is) {
+    if (f == X87)
+        x.word ^= (uint16_t)(is << 15);
+    else
+        x.bits ^= (uint64_t)is << (8 * formats[f].width - 1);
+    return x;
+}
+
+/* With all signs: the value has the dividend's, rem's quotient none, and remquo's that of x/y. */
+static void quotients(void) {
+    size_t i;
+    int signs, kind;
+    for (i = 0; i < sizeof quotient_cases / sizeof *quotient_cases; i++)
+        for (signs = 0; signs < 4; signs++)
+            for (kind = 0; kind < 2; kind++) {
+                const struct quotient_case *c = &quotient_cases[i];
+                struct pattern x = negated(c->f, c->x, signs & 1), y = negated(c->f, c->y, signs >> 1);
+                struct pattern value = negated(c->f, c->of[kind].value, signs & 1);
+                int32_t quotient = (int32_t)c->of[kind].quotient;
+                struct reply r = call_rem(c->f, x, y, (uint32_t)kind), s = call_remquo(c->f, x, y, (uint32_t)kind);
+                check(r.number == 0 && same(r.value, value) && r.quotient == c->of[kind].quotient && !r.touched, "a quotient", c->f);
+                check(s.number == 0 && same(s.value, value) && !s.touched, "a value of remquo", c->f);
+                check(s.signed_quotient == (signs == 1 || signs == 2 ? -quotient : quotient), "a quotient of remquo", c->f);
+            }
 }
 
 /* What scaling and splitting write, one value a format: three quarters of the smallest place up, a quarter down, and there and back. */
@@ -437,8 +534,10 @@ static void scaled_values(void) {
 }
 
 static void everything(void) {
-    static void (*const parts[])(void) = {remainders, steps,        long_block,               scalings_and_splits, folds, long_lists,
-                                          blocks,     spent_blocks, pseudo_denormal_operands, kinds,               scaled_values};
+    static void (*const parts[])(void) = {
+        remainders,   steps,                    long_block, scalings_and_splits, folds,         long_lists, blocks,
+        spent_blocks, pseudo_denormal_operands, kinds,      quotients,           scaled_values,
+    };
     size_t i;
     for (i = 0; i < sizeof parts / sizeof *parts; i++) {
         next_part();
