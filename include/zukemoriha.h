@@ -136,9 +136,9 @@ uint8_t zk_remquo80(uint64_t x, uint16_t xw, uint64_t y, uint16_t yw, uint32_t k
 /*
  * One step, as FPREM (kind 0) or FPREM1 makes it, with the size n that the manuals leave to the processor. D is the exponent of the
  * leading one of x less that of y, whatever their fields are, and 0 for a zero x; an infinite y finishes. If D < 64 the step finishes (0)
- * with the remainder and the quotient of one call. Otherwise it is partial (1): with QQ = |x|/|y|/2^(D-n) cut, in both kinds, the value is
- * x less QQ * 2^(D-n) times y, and the quotient is that part, QQ * 2^(D-n), modulo 2^31. A zero partial value is still partial: the next
- * step finishes.
+ * with the remainder and the quotient of one call. Otherwise it is partial (1): with QQ = |x|/|y|/2^(D-n) cut, in both kinds, the quotient
+ * is that part, QQ * 2^(D-n), modulo 2^31, and the value is x less the whole part, with the sign of x/y, times y. A zero partial value is
+ * still partial: the next step finishes.
  * Refuses with 9, 6, 2, 3, 4 or 5. length is the block's length in bytes.
  */
 uint8_t zk_step80(uint64_t x, uint16_t xw, uint64_t y, uint16_t yw, uint32_t size, uint32_t kind, uint8_t *block, size_t length);
