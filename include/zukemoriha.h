@@ -8,7 +8,7 @@
  *
  *   - Every bit pattern is taken. A function always returns one of the numbers 0 to 16 below.
  *   - 0, 1 and 7 are answers: everything that the function promises has been written. All other numbers are refusals: what was lent is
- *     as it was, byte for byte, *value, *quotient, *marked, *written, the block and the room included.
+ *     as it was, byte for byte, *value, *valuew, *quotient, *marked, *written, the block and the room included.
  *   - Where several refusals apply, the first in the order 9, 6, 2, 3, 4, 5, 8 is returned; 7 comes after them. Stem files have orders
  *     of their own (zk_stem_open, zk_stem_fold, zk_stem_write).
  *   - kind: 0 is the truncated remainder (C's fmod, the processor's FPREM), any other number is the nearest one (C's remainder, IEEE 754,
@@ -125,8 +125,8 @@ uint8_t zk_rem80(uint64_t x, uint16_t xw, uint64_t y, uint16_t yw, uint32_t kind
 /*
  * The remainder in one call, as above, with the sign of x/y on its quotient. Returns 0, or refuses with 2 (x87 only), 3, 4 or 5.
  * *quotient gets |Q| modulo 2^31, below zero where just one of x and y is negative. It is from -(2^31 - 1) to 2^31 - 1, and 0 where |Q|
- * modulo 2^31 is 0, whatever the signs. With ZK_NEAREST this is C's remquo, with 31 bits of the quotient where C asks for three; where
- * C's gives a NaN, the call is refused, and *value, *valuew and *quotient stay as they were.
+ * modulo 2^31 is 0, whatever the signs. With ZK_NEAREST this is C's remquo, with 31 bits of the quotient where C asks for at least
+ * three; where C's gives a NaN, the call is refused, and *value, *valuew and *quotient stay as they were.
  */
 uint8_t zk_remquo16(uint16_t x, uint16_t y, uint32_t kind, uint16_t *value, int32_t *quotient);
 uint8_t zk_remquo32(uint32_t x, uint32_t y, uint32_t kind, uint32_t *value, int32_t *quotient);

@@ -11,22 +11,26 @@ use Rattle.definitions.specs.Format.{Format, Regular, classOf, patternOf, ordin
 use Rattle.definitions.specs.Numbers.{first, accepted, dividing, isUnsupported, isNan, isZero}
 use Rattle.definitions.specs.declared.Kind.{Kind}
 use Rattle.definitions.specs.Remainder.{remainder}
+use Rattle.definitions.specs.Signed.{signedRemainder}
 use Rattle.definitions.specs.Reports.{Report, Lent, fitting, sized, reportOf, stepReport, runReport}
 use Rattle.definitions.specs.Scale.{scaleReport, splitReport}
 use Rattle.definitions.specs.Steps as Steps
 use Rattle.definitions.specs.Calls.{Call, step, run, answer, Made, made}
 use Rattle.laws.proofs.Results.{result-ordinary, remainder-result, scale-result, split-result}
+use Rattle.laws.proofs.Signed.{signed-remainder}
 use Rattle.chains.proofs.Small.{step-small, run-small}
 
 -- the value of every report is ordinary, whatever the operands; that of a refusal too
 pub every-result-ordinary : (f : Format) → Regular f → (l : Lent) (κ : Kind) (n b x y : ℕ) (k : ℤ)
     → (ordinary f (remainder f κ x y .value) ≡ true)
+    × (ordinary f (signedRemainder f κ x y .value) ≡ true)
     × (ordinary x87 (stepReport l κ n x y .value) ≡ true)
     × (ordinary x87 (runReport l κ n b x y .value) ≡ true)
     × (ordinary f (scaleReport f x k .value) ≡ true)
     × (ordinary f (splitReport f x .significand) ≡ true)
 every-result-ordinary f r l κ n b x y k = (
   result-ordinary f r (remainder-result f r κ x y),
+  rw (signed-remainder f κ x y .1) (result-ordinary f r (remainder-result f r κ x y)),
   step-small l κ n x y .ordinary,
   run-small l κ n x y b .ordinary,
   result-ordinary f r (scale-result f r x k),
@@ -35,9 +39,9 @@ every-result-ordinary f r l κ n b x y k = (
 
 -- two patterns that stand for the same are the same operand: dividend, divisor, both, or what is scaled or split
 pub operands-same : (f : Format) (κ : Kind) (x u y w : ℕ) (k : ℤ) → classOf f x ≡ classOf f u → classOf f y ≡ classOf f w
-    → (remainder f κ x y ≡ remainder f κ u w) × (scaleReport f x k ≡ scaleReport f u k) × (splitReport f x ≡ splitReport f u)
-unfolding remainder scaleReport splitReport
-operands-same f κ x u y w k ex ey = (rw (ex, ey), rw ex, rw ex)
+    → (remainder f κ x y ≡ remainder f κ u w) × (signedRemainder f κ x y ≡ signedRemainder f κ u w) × (scaleReport f x k ≡ scaleReport f u k) × (splitReport f x ≡ splitReport f u)
+unfolding remainder signedRemainder scaleReport splitReport
+operands-same f κ x u y w k ex ey = (rw (ex, ey), rw (ex, ey), rw ex, rw ex)
 
 pub calls-same : (l : Lent) (κ : Kind) (n b x u y w : ℕ) → classOf x87 x ≡ classOf x87 u → classOf x87 y ≡ classOf x87 w
     → (stepReport l κ n x y ≡ stepReport l κ n u w) × (runReport l κ n b x y ≡ runReport l κ n b u w)

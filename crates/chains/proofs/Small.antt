@@ -1,11 +1,14 @@
--- What a step or a run reports fits where it is written: its value is an x87 pattern, and an ordinary one. Assumes nothing.
+-- What a step or a run reports fits where it is written: its value is an x87 pattern, an ordinary one, and its quotient is below the modulus.
+-- Assumes nothing.
 use mathlib.Core.Path.{_≡_, refl, subst}
 use mathlib.Core.Bool.{Bool, true, false, not, cond}
 use Prim.Native.Nat.{ℕ, _<_}
+use native.Mathlib.Nat.{mod-lt}
+use lib.Dec.{lit<}
 use Rattle.definitions.specs.Class.{Class, unsupported, nan, infinite, finite}
 use Rattle.definitions.specs.Format.{Representable, classOf, patternOf, patterns, ordinary, x87}
 use Rattle.definitions.specs.Numbers.{first, accepted, isZero}
-use Rattle.definitions.specs.Remainder.{refusedValue}
+use Rattle.definitions.specs.Remainder.{quotientModulus, quotientBits, refusedValue}
 use Rattle.definitions.specs.declared.Kind.{Kind}
 use Rattle.definitions.specs.Division.{Outcome, dividendOf, divisorOf}
 use Rattle.definitions.specs.Steps.{run}
@@ -21,11 +24,17 @@ use Rattle.chains.proofs.Continued.{held}
 pub record Small (r : Report ℕ) : Type 0 where
   pub value : r .value < patterns x87
   pub ordinary : ordinary x87 (r .value) ≡ true
+  pub quotient : r .quotient < quotientModulus
+
+-- what is told of a quotient, and the 0 of a refusal
+few : (t : Bool) (q : ℕ) → cond t (quotientBits q) 0 < quotientModulus
+few true q = mod-lt q (lit< tt)
+few false q = lit< tt
 
 -- an answer of a representable value, and a refusal
 of-result : (n : ℕ) (r : Outcome) → Result x87 (reportOf n r .value) → Small (reportOf n r)
 of-result n r k =
-    record { value = result-small x87 regular80 k; ordinary = result-ordinary x87 regular80 k }
+    record { value = result-small x87 regular80 k; ordinary = result-ordinary x87 regular80 k; quotient = few (accepted n) (r .whole) }
 
 of-answer : (n : ℕ) (r : Outcome) → Representable x87 (r .value .count) → Small (reportOf n r)
 of-answer n r h = of-result n r (go (accepted n))

@@ -13,8 +13,8 @@ use Rattle.digits.proofs.Tests.{clash, not-zero}
 use Rattle.definitions.specs.Class.{Value, Class, unsupported, nan, infinite, finite, signed}
 use Rattle.definitions.specs.Format.{Format, x87, classOf, fieldsClass, houseNan, topField}
 use Rattle.definitions.specs.Numbers.{first, accepted, dividing, isUnsupported, isNan, isInfinite, isZero}
-use Rattle.definitions.specs.Division.{dividendOf, divisorOf}
-use Rattle.definitions.specs.Remainder.{remainder, remainderOf, refusedValue}
+use Rattle.definitions.specs.Division.{finish, dividendOf, divisorOf}
+use Rattle.definitions.specs.Remainder.{quotientBits, remainder, remainderOf, refusedValue}
 use Rattle.definitions.specs.Signed.{signedRemainder, signedOf}
 use Rattle.definitions.specs.Steps.{step, run}
 use Rattle.definitions.specs.Reports.{Lent, fitting, sized, stepping, running, stepReport, runReport}
@@ -47,6 +47,17 @@ pub refused-tells : (f : Format) (l : Lent) (κ : Kind) (n b x y : ℕ) (k : ℤ
     × (accepted (v .number) ≡ false → v ≡ record { number = v .number; significand = refusedValue f; exponent = pos 0 })
 unfolding remainder remainderOf signedRemainder signedOf stepReport runReport scaleReport scaleOf splitReport splitOf
 refused-tells f l κ n b x y k = (λ e. rw e, λ e. rw (e, signed-zero), λ e. rw e, λ e. rw e, λ e. rw e, λ e. rw e)
+
+-- [3.6, 4.2, 4.3, 4.7] what an answer tells of its quotient: the bits of the whole one, whatever the operation
+pub answers-tell : (f : Format) (l : Lent) (κ : Kind) (n b x y : ℕ)
+    → let r = remainder f κ x y in
+    let s = stepReport l κ n x y in
+    let t = runReport l κ n b x y in
+    (accepted (r .number) ≡ true → r .quotient ≡ quotientBits (finish κ (divisorOf (classOf f y)) (dividendOf (classOf f x)) .whole))
+    × (accepted (s .number) ≡ true → s .quotient ≡ quotientBits (step κ n (divisorOf (classOf x87 y)) (dividendOf (classOf x87 x)) .whole))
+    × (accepted (t .number) ≡ true → t .quotient ≡ quotientBits (run κ n b (divisorOf (classOf x87 y)) (dividendOf (classOf x87 x)) .whole))
+unfolding remainder remainderOf stepReport runReport
+answers-tell f l κ n b x y = (λ e. rw e, λ e. rw e, λ e. rw e)
 
 -- [2.9] and that value is the house NaN
 pub refused-value : (f : Format) → refusedValue f ≡ houseNan f

@@ -6,10 +6,10 @@ use Prim.Native.Nat.{ℕ, zero, suc, _+_, _*_, _^_}
 use native.Mathlib.Omega.{arith}
 use lib.Ieee.{size}
 use lib.ListN.{length}
-use lib.IntN.{ℤ}
+use lib.IntN.{ℤ, pos}
 use Rattle.digits.proofs.Tests.{not-zero}
 use Rattle.definitions.specs.Class.{gap}
-use Rattle.definitions.specs.Format.{Format, words, classOf, patternOf, magnitude}
+use Rattle.definitions.specs.Format.{Format, words, classOf, patternOf, magnitude, houseNan, x87}
 use Rattle.definitions.specs.Numbers.{first}
 use Rattle.definitions.specs.Division.{finish}
 use Rattle.definitions.specs.Remainder.{remainder}
@@ -22,6 +22,7 @@ use Rattle.definitions.specs.Reports.{nothing, block, stepReport, runRep
 use Rattle.definitions.specs.Calls as calls
 use Rattle.definitions.specs.Calls.{Call, Made, answer, made, answers, lastValue, Runs, Some}
 use Rattle.definitions.specs.Fold.{Folded, foldList}
+use Rattle.definitions.specs.declared.Refusal.{Refusal}
 use Rattle.definitions.specs.declared.Refusal.the-variants as why
 use Rattle.definitions.specs.declared.Pattern.{Pattern}
 use Rattle.definitions.specs.declared.RemainderAnswer.the-variants as rem
@@ -177,6 +178,14 @@ pub meanings : (f : Format) (v : Pattern) (q n : ℕ) (r : Rounding) (e : ℤ)
     × (splitMeaning f (split.Parts v e) ≡ record { number = 0; significand = b; exponent = e })
 unfolding remainderMeaning signedMeaning stepsMeaning scaleMeaning splitMeaning
 meanings f v q n r e = (refl, refl, refl, refl, refl, refl, refl, refl)
+
+-- [7.5] and a refusal is told by its number alone
+pub refused-meanings : (f : Format) (w : Refusal) (u : ℕ)
+    → (remainderMeaning f (rem.Refused w) ≡ record { number = refusalNumber w; value = houseNan f; quotient = 0 })
+    × (signedMeaning f (sgn.Refused w) ≡ record { number = refusalNumber w; value = houseNan f; quotient = pos 0 })
+    × (stepsMeaning u (steps.Refused w) ≡ record { number = refusalNumber w; value = houseNan x87; quotient = 0; steps = 0 })
+unfolding remainderMeaning signedMeaning stepsMeaning
+refused-meanings f w u = (refl, refl, refl)
 
 -- [7.1] the number of each refusal of the code
 pub refusal-numbers : map refusalNumber (why.BadLength ∷ why.BadSize ∷ why.Unsupported ∷ why.Nan ∷ why.Infinite ∷ why.ZeroDivisor ∷ why.ZeroSplit ∷ [])

@@ -116,12 +116,3 @@ longReadings =
     -- a partial value may fall by more than 63 places: 2^127 by 2^64 − 1 gives 2^63, at size 63
     ∷ reading (step nothing Truncated 63 0x407E8000000000000000 0x403EFFFFFFFFFFFFFFFF) (steps 1 0x403E8000000000000000 0 1)
     ∷ []
-
--- what the definitions tell of each row, and what is expected of it
-abbrev pub allComputed : (ℕ → ℕ) → List Reading → List Told
-allComputed s [] = []
-allComputed s (r ∷ rs) = computed s (r .asked) ∷ allComputed s rs
-
-abbrev pub allExpected : List Reading → List Told
-allExpected [] = []
-allExpected (r ∷ rs) = r .expected ∷ allExpected rs

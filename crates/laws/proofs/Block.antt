@@ -5,15 +5,16 @@ use mathlib.Core.List.{List, [], _∷_, _++_}
 use Prim.Native.Nat.{ℕ, _*_, _/_, _%_, _^_}
 use native.Mathlib.Nat.{mod-lt, div-one, div-add-mod', div-div-eq-div-mul}
 use lib.Dec.{lit<}
-use lib.ListN.{length}
+use lib.ListN.{length, getD}
+use lib.Pow.{mod-mod-pow}
 use Rattle.definitions.specs.Format.{words}
 use Rattle.definitions.specs.Numbers.{accepted}
-use Rattle.definitions.specs.Bytes.{bytesOf}
+use Rattle.definitions.specs.Bytes.{bytesOf, loaded}
 use Rattle.definitions.specs.Remainder.{shown}
 use Rattle.definitions.specs.Reports.{Report}
 use Rattle.definitions.specs.Exports.{significandIn, wordIn}
 use Rattle.definitions.specs.Block.{blockOf, blockAfter}
-use Rattle.laws.proofs.Bytes.{bytes-joined}
+use Rattle.laws.proofs.Bytes.{bytes-joined, of-bytes}
 
 -- the byte i of n, the lowest being 0
 abbrev pub byte : ℕ → ℕ → ℕ
@@ -41,6 +42,15 @@ pub block-layout : (r : Report ℕ)
     ∷ []
 unfolding blockOf
 block-layout r = ap (λ (bs : List ℕ). bs ++ (r .number ∷ shown (r .quotient) ∷ (bytesOf 4 (r .steps) ++ bytesOf 4 (r .quotient)))) (value-bytes (r .value)) ∙ simp (div-div-eq-div-mul, div-one)
+
+-- [9.4] bytes 16 to 19 are the quotient, and byte 11 is what is shown of that number, whatever the call
+pub block-quotient : (r : Report ℕ) → loaded 4 16 (blockOf r) ≡ r .quotient % 2 ^ 32
+unfolding blockOf
+block-quotient r = of-bytes 4 (r .quotient)
+
+pub block-octant : (r : Report ℕ) → getD (blockOf r) 11 0 ≡ shown (loaded 4 16 (blockOf r))
+unfolding blockOf
+block-octant r = sym (ap shown (of-bytes 4 (r .quotient)) ∙ mod-mod-pow (r .quotient) 29 3)
 
 module _ (lent : List ℕ) (r : Report ℕ) where
   -- [9.6] a refusal leaves the block

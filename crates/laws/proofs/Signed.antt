@@ -1,7 +1,7 @@
 -- The signed quotient, by what it is of the quotient itself: its range, its magnitude and its sign; and what C asks of remquo. Assumes
 -- nothing.
 use mathlib.Core.Path.{_≡_, refl, sym, ap, _∙_}
-use mathlib.Core.Bool.{Bool, true, false}
+use mathlib.Core.Bool.{Bool, true, false, not, cond, _&&_, _||_}
 use Prim.Native.Nat.{ℕ, zero, suc, _%_, _<_}
 use native.Mathlib.Omega.{arith}
 use borrow.Author.Tests.{ltb-true}
@@ -9,14 +9,15 @@ use lib.IntN.{ℤ, pos, natAbs, _+ℤ_, _*ℤ_}
 use lib.Signed.{ltZ}
 use Rattle.digits.proofs.Tests.{clash, not-zero}
 use Rattle.definitions.specs.Class.{Value, finite, infinite, signed, valueOf, combined}
-use Rattle.definitions.specs.Format.{Format, classOf, patternOf, ordinaryOf}
-use Rattle.definitions.specs.Numbers.{first}
+use Rattle.definitions.specs.Format.{Format, Regular, classOf, patternOf, ordinaryOf}
+use Rattle.definitions.specs.Numbers.{first, accepted, isUnsupported, isNan, isInfinite, isZero}
 use Rattle.definitions.specs.declared.Kind.{Kind}
 use Rattle.definitions.specs.declared.Kind.the-variants.{Nearest}
 use Rattle.definitions.specs.Division.{Outcome, by, finish, finishBy}
 use Rattle.definitions.specs.Remainder.{quotientModulus, quotientBits, remainderOf, remainder}
 use Rattle.definitions.specs.Signed.{negativeClass, signedOf, signedRemainder}
-use Rattle.laws.proofs.Division.{Half, rule, nearest-half, zero-sign}
+use Rattle.laws.proofs.Division.{Half, rule, nearest-half, zero-sign, finish-held}
+use Rattle.laws.proofs.RoundTrip.{read-written, read-held}
 use Rattle.laws.proofs.Remainder.{quotient-told, three-bits}
 
 magnitude : (s : Bool) (n : ℕ) → natAbs (signed s n) ≡ n
@@ -105,3 +106,29 @@ remquo-of-c f x y v w ex ey p =
 
     o : Outcome
     o = finishBy Nearest (w .count) v
+
+-- [3.8] in a regular format the value that is written reads back as that remainder
+pub remquo-read : (f : Format) → Regular f → (x y : ℕ) (v w : Value) → classOf f x ≡ finite v → classOf f y ≡ finite w → 0 < w .count
+    → classOf f (signedRemainder f Nearest x y .value) ≡ finite (finish Nearest (by (w .count)) v .value)
+unfolding finish
+remquo-read f reg x y v w ex ey p =
+    rw (signed-is f Nearest x y v w ex ey p)
+    (read-written f reg (finishBy Nearest (w .count) v .value) (finish-held f Nearest (w .count) v p (read-held f reg y w ey) (read-held f reg x v ex)))
+
+-- [3.8, 7.5] it is refused just where C's remquo gives a NaN: a NaN, an infinite dividend, a zero divisor; and where an operand is unsupported
+pub signed-accepted : (f : Format) (κ : Kind) (x y : ℕ)
+    → let X = classOf f x in
+    let Y = classOf f y in
+    accepted (signedRemainder f κ x y .number) ≡ not (isUnsupported X || isUnsupported Y) && not (isNan X || isNan Y) && not (isInfinite X) && not (isZero Y)
+unfolding signedRemainder signedOf remainderOf first
+signed-accepted f κ x y =
+    let X = classOf f x in
+    let Y = classOf f y in
+    go (isUnsupported X || isUnsupported Y) (isNan X || isNan Y) (isInfinite X) (isZero Y)
+  where
+    go : (u n i z : Bool) → accepted (cond u 2 (cond n 3 (cond i 4 (cond z 5 0)))) ≡ not u && not n && not i && not z
+    go true n i z = refl
+    go false true i z = refl
+    go false false true z = refl
+    go false false false true = refl
+    go false false false false = refl
