@@ -145,7 +145,7 @@ signedQuotients =
     ∷ reading (divideSigned binary64 Truncated 0xC01C000000000000 0xC000000000000000) (signedValue 0 0xBFF0000000000000 (pos 3))
     ∷ reading (divideSigned binary64 Truncated 0xBFF0000000000000 0x4000000000000000) (signedValue 0 0xBFF0000000000000 (pos 0))
     ∷ reading (divideSigned binary64 Nearest 0xC1E0000000000000 0x3FF0000000000000) (signedValue 0 0x8000000000000000 (pos 0))
-    -- the ends of the range, and one more than half of it
+    -- the ends of the range, and 3 times 2^30, which is 2^30
     ∷ reading (divideSigned binary64 Truncated 0x41DFFFFFFFC00000 0x3FF0000000000000) (signedValue 0 0x0000000000000000 (pos 2147483647))
     ∷ reading (divideSigned binary64 Nearest 0x41DFFFFFFFC00000 0xBFF0000000000000) (signedValue 0 0x0000000000000000 (negsuc 2147483646))
     ∷ reading (divideSigned binary64 Nearest 0xC1E8000000000000 0x3FF0000000000000) (signedValue 0 0x8000000000000000 (negsuc 1073741823))

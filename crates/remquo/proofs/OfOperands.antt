@@ -1,12 +1,11 @@
 -- The signed answer of operands, from their remainder, and of operands that are those of patterns: in every format. Assumes nothing.
 use mathlib.Core.Path.{_≡_, sym, ap, _∙_}
-use mathlib.Core.Bool.{Bool}
 use Prim.Native.Nat.{ℕ, _<_}
 use lib.IntN.{ℤ}
 use Rattle.definitions.specs.Class.{Class, signed, combined}
 use Rattle.definitions.specs.Format.{Format, classOf}
 use Rattle.definitions.specs.Remainder.{Remainder, quotientModulus, remainderOf}
-use Rattle.definitions.specs.Signed.{SignedRemainder, negativeClass, signedOf, signedRemainder}
+use Rattle.definitions.specs.Signed.{negativeClass, signedOf, signedRemainder}
 use Rattle.definitions.specs.Answers.{remainderMeaning, signedMeaning}
 use Rattle.definitions.specs.declared.Kind.{Kind}
 use Rattle.definitions.specs.declared.Pattern.{Pattern}
