@@ -4,7 +4,7 @@
 mod altered;
 mod archive;
 
-use altered::{altered_text, shortened, Altered, Change, CHANGES};
+use altered::{altered_text, shortened, Altered, Answerer, Answering, Change, CHANGES};
 use archive::Archive;
 use compare::stems::Difference;
 use compare::writes::Gauges;
@@ -12,21 +12,6 @@ use compare::*;
 use zukemoriha::binary64::HOUSE_NAN;
 use zukemoriha::Answer::{Finished, Partial};
 use zukemoriha::Refusal::{BadSize, ZeroDivisor};
-
-/// The library, with other answers to calls.
-struct Answering(Answerer);
-
-type Answerer = fn(&Call) -> Answer;
-
-impl Implementation for Answering {
-    fn name(&self) -> &'static str {
-        "answering"
-    }
-
-    fn answer(&self, call: &Call) -> Answer {
-        (self.0)(call)
-    }
-}
 
 /// The library, with a stem file that is mended before it is judged, and a roller's readings from
 /// which the origin is taken in another way.

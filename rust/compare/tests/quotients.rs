@@ -4,24 +4,9 @@
 
 mod altered;
 
-use altered::Change;
+use altered::{Answerer, Answering, Change};
 use compare::*;
 use Format::{Binary16, Binary32, Binary64, X87};
-
-/// The library, with other answers to calls.
-struct Answering(Answerer);
-
-type Answerer = fn(&Call) -> Answer;
-
-impl Implementation for Answering {
-    fn name(&self) -> &'static str {
-        "answering"
-    }
-
-    fn answer(&self, call: &Call) -> Answer {
-        (self.0)(call)
-    }
-}
 
 /// The differences in a file of vectors, by its name.
 fn in_file(pair: Pair, name: &str) -> u64 {

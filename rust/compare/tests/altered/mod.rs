@@ -1,4 +1,4 @@
-//! A library that is wrong in one answer, and a text that is wrong in one field.
+//! A library that is wrong in one answer, or gives others, and a text that is wrong in one field.
 
 // each test needs a part
 #![allow(dead_code)]
@@ -18,6 +18,21 @@ pub const CHANGES: [(&str, Change<Answer>); 7] = [
     ("what it says", |answer| answer.says ^= 2),
     ("the exponent", |answer| answer.exponent -= 1),
 ];
+
+/// The library, with other answers to calls.
+pub struct Answering(pub Answerer);
+
+pub type Answerer = fn(&Call) -> Answer;
+
+impl Implementation for Answering {
+    fn name(&self) -> &'static str {
+        "answering"
+    }
+
+    fn answer(&self, call: &Call) -> Answer {
+        (self.0)(call)
+    }
+}
 
 /// The library, with one of its finished answers, its lists with a mark, its stem files with a point,
 /// opened or written, or its folded points changed.
