@@ -25,8 +25,8 @@
  *
  * The remainder of x by y is x - Q*y with Q the quotient |x|/|y|, cut (truncated) or rounded to nearest, a half to the even one (nearest),
  * with the sign of x/y. It is exact. A zero result has the sign of x. The quotient that is told is |Q| modulo 2^31, its low 31 bits. Where
- * there is one byte for it, in a folded list and in byte 11 of a block, that is shown modulo 8. By an infinite y a finite x is returned,
- * with quotient 0.
+ * there is only one byte for it, in a folded list and in byte 11 of a block, the byte is that number modulo 8. By an infinite y a finite x
+ * is returned, with quotient 0.
  *
  * Where a function returns x (with quotient 0, as by an infinite y; scaling by 0; scaling a split x back; a run with budget 0), it returns
  * the bits of x, with one exception: an x87 pseudo-denormal, which is a number like any other, comes back in its ordinary pattern (see
@@ -40,7 +40,7 @@
 #include <stdint.h>
 #include <string.h>
 
-#define ZK_VERSION "0.1.0"
+#define ZK_VERSION "0.2.0"
 
 #ifdef __cplusplus
 extern "C" {
@@ -86,7 +86,10 @@ enum zk_says {
 #define ZK_MARK 255u
 #define ZK_HOUSE_NAN64 UINT64_C(0x7FF8000000000000)
 
-/* Quotients are told modulo this, 2^31: those of the calls of one chain are added modulo it. */
+/*
+ * Quotients are told modulo this, 2^31: those of the calls of one chain are added modulo it. They are magnitudes: the sign of a chain's
+ * quotient is that of its first x by y. Two of them add up in a uint32_t.
+ */
 #define ZK_QUOTIENT_MODULUS UINT32_C(0x80000000)
 
 /*
@@ -95,7 +98,7 @@ enum zk_says {
  *   byte  0 to 7   significand of the value, little-endian
  *   byte  8 to 9   sign-and-exponent word of the value, little-endian
  *   byte 10        the number, the same as the one returned
- *   byte 11        the quotient of bytes 16 to 19 modulo 8: 0 to 7
+ *   byte 11        the number in bytes 16 to 19, modulo 8: 0 to 7
  *   byte 12 to 15  steps taken, little-endian: 1 for a step
  *   byte 16 to 19  the quotient, 0 to 2^31 - 1, little-endian: this step's quotient part, or a run's parts added up, modulo 2^31
  */

@@ -1,6 +1,6 @@
-//! What the comparisons are worth where quotients are told: a library with other quotients, other
-//! signs or other blocks has to be noticed, and so has a file with another quotient. The differences
-//! that this prints are wanted.
+//! What the comparisons are worth where quotients are told: a library with other quotients, signs or
+//! blocks has to be noticed, and so has a file with another quotient. The differences that this
+//! prints are wanted.
 
 mod altered;
 

@@ -4,8 +4,8 @@
 use crate::format::{Class, Format, Magnitude, Operand};
 use crate::Kind;
 
-/// Quotients are told modulo this: 31 bits. The double of what is below it, and a one more, is still
-/// a `u32`, and so is the sum of two.
+/// Quotients are told modulo this: 31 bits. The double of what is below it, and one more, is still a
+/// `u32`, and so is the sum of two.
 pub const QUOTIENT_MODULUS: u32 = 1 << 31;
 
 /// One byte of a folded list or of a block shows a quotient modulo this, and so does a line of the

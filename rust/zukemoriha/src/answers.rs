@@ -33,7 +33,7 @@ pub struct Remquo<T> {
     /// The remainder. A zero has the sign of the dividend.
     pub value: T,
     /// The quotient's magnitude modulo 2^31, below zero where just one operand is negative: from
-    /// -(2^31 - 1) to 2^31 - 1.
+    /// -(2^31 - 1) to 2^31 - 1. 0 has no sign.
     pub quotient: i32,
 }
 

@@ -61,11 +61,11 @@ pub fn remainder_f64(x: f64, y: f64, kind: Kind) -> Result<Remainder<f64>, Refus
 }
 
 /// The remainder of `x` by `y`, exact, with the low 31 bits of the quotient's magnitude and the
-/// sign of `x / y`: below zero where just one operand is negative.
+/// sign of `x / y`: below zero where just one operand is negative. 0 has no sign.
 ///
 /// With [`Kind::Nearest`] it is C's `remquof`, with 31 bits of the quotient where C asks for
-/// three; what is a NaN there is refused. The value is that of [`remainder_f32`], and so is the
-/// quotient's magnitude, which is 0 by an infinite `y`.
+/// at least three; what is a NaN there is refused. The value is that of [`remainder_f32`], and so
+/// is the quotient's magnitude, which is 0 by an infinite `y`.
 ///
 /// # Errors
 ///
@@ -86,11 +86,11 @@ pub fn remquo_f32(x: f32, y: f32, kind: Kind) -> Result<Remquo<f32>, Refusal> {
 }
 
 /// The remainder of `x` by `y`, exact, with the low 31 bits of the quotient's magnitude and the
-/// sign of `x / y`: below zero where just one operand is negative.
+/// sign of `x / y`: below zero where just one operand is negative. 0 has no sign.
 ///
-/// With [`Kind::Nearest`] it is C's `remquo`, with 31 bits of the quotient where C asks for three;
-/// what is a NaN there is refused. The value is that of [`remainder_f64`], and so is the
-/// quotient's magnitude, which is 0 by an infinite `y`.
+/// With [`Kind::Nearest`] it is C's `remquo`, with 31 bits of the quotient where C asks for
+/// at least three; what is a NaN there is refused. The value is that of [`remainder_f64`], and so
+/// is the quotient's magnitude, which is 0 by an infinite `y`.
 ///
 /// # Errors
 ///

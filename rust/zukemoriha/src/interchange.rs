@@ -44,11 +44,11 @@ macro_rules! interchange_functions {
         }
 
         /// The remainder of `x` by `y`, exact, with the low 31 bits of the quotient's magnitude and
-        /// the sign of `x / y`: below zero where just one operand is negative.
+        /// the sign of `x / y`: below zero where just one operand is negative. 0 has no sign.
         ///
         /// With [`Kind::Nearest`](crate::Kind::Nearest) it is C's `remquo`, with 31 bits of the
-        /// quotient where C asks for three; what is a NaN there is refused. The value is that of
-        /// [`remainder`], and so is the quotient's magnitude, which is 0 by an infinite `y`.
+        /// quotient where C asks for at least three; what is a NaN there is refused. The value is
+        /// that of [`remainder`], and so is the quotient's magnitude, which is 0 by an infinite `y`.
         ///
         /// # Errors
         ///

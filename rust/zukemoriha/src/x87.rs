@@ -74,11 +74,11 @@ pub fn remainder(x: X87, y: X87, kind: Kind) -> Result<Remainder<X87>, Refusal> 
 }
 
 /// The remainder of `x` by `y`, exact, with the low 31 bits of the quotient's magnitude and the
-/// sign of `x / y`: below zero where just one operand is negative.
+/// sign of `x / y`: below zero where just one operand is negative. 0 has no sign.
 ///
 /// With [`Kind::Nearest`] it is C's `remquol`, with 31 bits of the quotient where C asks for
-/// three; what is a NaN there is refused. The value is that of [`remainder`], and so is the
-/// quotient's magnitude, which is 0 by an infinite `y`.
+/// at least three; what is a NaN there is refused. The value is that of [`remainder`], and so is
+/// the quotient's magnitude, which is 0 by an infinite `y`.
 ///
 /// # Errors
 ///
