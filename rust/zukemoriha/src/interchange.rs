@@ -48,7 +48,8 @@ macro_rules! interchange_functions {
         ///
         /// With [`Kind::Nearest`](crate::Kind::Nearest) it is C's `remquo`, with 31 bits of the
         /// quotient where C asks for at least three; what is a NaN there is refused. The value is
-        /// that of [`remainder`], and so is the quotient's magnitude, which is 0 by an infinite `y`.
+        /// that of [`remainder`], and so is the quotient's magnitude, which is 0 by an infinite
+        /// `y`.
         ///
         /// # Errors
         ///
