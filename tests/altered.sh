@@ -93,7 +93,7 @@ page docs/PROOF.md 's|`remainder/a-constant`|`remainder/two-constants`|' 'no edi
 page docs/PROOF.md 's|`every-list`|`any-list`|' 'no theorem any-list$'
 page docs/ARCHITECTURE.md 's/`hex`/hex/' 'does not name the crate hex$'
 page docs/GATE.md '/^| `hex` |/d' 'has no times of the crate hex with its 3 edits$'
-page docs/GATE.md '/^| `hex` |/s/| 3 |/| 2 |/' 'has no times of the crate hex with its 3 edits$'
+page docs/GATE.md '/^| `hex` |/s/| 3 | \([0-9]*\) |$/| 2 | \1 |/' 'has no times of the crate hex with its 3 edits$'
 page README.md 's|(docs/SCOPE.md)|(docs/SCOPES.md)|' '^README.md: no docs/SCOPES.md$'
 page docs/EVIDENCE.md 's|`tests/faults.c`|`tests/errors.c`|' '^docs/EVIDENCE.md: no tests/errors.c$'
 page docs/PROOF.md 's/^- \[1[.]2\]/- [1.99]/' 'has no sentence 1.99$'
