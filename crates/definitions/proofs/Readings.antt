@@ -14,7 +14,7 @@ use Rattle.definitions.specs.declared.Kind.the-variants.{Truncated, Near
 use Rattle.definitions.specs.Reports.{nothing}
 use Rattle.definitions.specs.Table as table
 use Rattle.definitions.specs.Table.{Reading, computed, divide, value, steps, readings, longReadings}
-use Rattle.definitions.specs.Samples.{refusals, answered, pseudoDenormals, longQuotients, signedQuotients}
+use Rattle.definitions.specs.Samples.{refusals, answered, pseudoDenormals, longQuotients, signedQuotients, nans}
 
 -- readings 1 to 10
 pub readings-hold : map (λ (r : Reading). computed shown (r .asked)) readings ≡ map (λ (r : Reading). r .expected) readings
@@ -58,6 +58,11 @@ long-quotients-hold = refl
 pub signed-quotients-hold : map (λ (r : Reading). computed all (r .asked)) signedQuotients ≡ map (λ (r : Reading). r .expected) signedQuotients
 unfolding computed signedQuotients size gap classOf patternOf magnitude first finish step run
 signed-quotients-hold = refl
+
+-- [2.11, 2.12] the NaN that is returned
+pub nans-hold : map (λ (r : Reading). computed all (r .asked)) nans ≡ map (λ (r : Reading). r .expected) nans
+unfolding computed nans size gap classOf patternOf magnitude first finish step run
+nans-hold = refl
 
 -- [2.10] which patterns are ordinary: around the field 0, at both of its ends and with either sign; in another format all of them
 pub ordinary-patterns : (map (ordinary x87)

@@ -14,7 +14,8 @@ use Rattle.definitions.specs.Class.{Value, Class, unsupported, nan, infi
 use Rattle.definitions.specs.Format.{Format, x87, classOf, fieldsClass, houseNan, topField}
 use Rattle.definitions.specs.Numbers.{first, accepted, dividing, isUnsupported, isNan, isInfinite, isZero}
 use Rattle.definitions.specs.Division.{finish, dividendOf, divisorOf}
-use Rattle.definitions.specs.Remainder.{quotientBits, remainder, remainderOf, refusedValue}
+use Rattle.definitions.specs.Facts.{nanOf, refusedValue}
+use Rattle.definitions.specs.Remainder.{quotientBits, remainder, remainderOf}
 use Rattle.definitions.specs.Signed.{signedRemainder, signedOf}
 use Rattle.definitions.specs.Steps.{step, run}
 use Rattle.definitions.specs.Reports.{Lent, fitting, sized, stepping, running, stepReport, runReport}
@@ -33,18 +34,20 @@ signed-zero false = refl
 
 -- a refusal has its number, the refusal's value, and nothing else
 pub refused-tells : (f : Format) (l : Lent) (κ : Kind) (n b x y : ℕ) (k : ℤ)
-    → let r = remainder f κ x y in
+    → let X = classOf f x in
+    let Y = classOf f y in
+    let r = remainder f κ x y in
     let g = signedRemainder f κ x y in
     let s = stepReport l κ n x y in
     let t = runReport l κ n b x y in
     let u = scaleReport f x k in
     let v = splitReport f x in
-    (accepted (r .number) ≡ false → r ≡ record { number = r .number; value = refusedValue f; quotient = 0 })
-    × (accepted (g .number) ≡ false → g ≡ record { number = g .number; value = refusedValue f; quotient = pos 0 })
-    × (accepted (s .number) ≡ false → s ≡ record { number = s .number; value = refusedValue x87; quotient = 0; steps = 0 })
-    × (accepted (t .number) ≡ false → t ≡ record { number = t .number; value = refusedValue x87; quotient = 0; steps = 0 })
-    × (accepted (u .number) ≡ false → u ≡ record { number = u .number; value = refusedValue f; says = Exact })
-    × (accepted (v .number) ≡ false → v ≡ record { number = v .number; significand = refusedValue f; exponent = pos 0 })
+    (accepted (r .number) ≡ false → r ≡ record { number = r .number; value = refusedValue f (r .number) X Y; quotient = 0 })
+    × (accepted (g .number) ≡ false → g ≡ record { number = g .number; value = refusedValue f (g .number) X Y; quotient = pos 0 })
+    × (accepted (s .number) ≡ false → s ≡ record { number = s .number; value = refusedValue x87 (s .number) (classOf x87 x) (classOf x87 y); quotient = 0; steps = 0 })
+    × (accepted (t .number) ≡ false → t ≡ record { number = t .number; value = refusedValue x87 (t .number) (classOf x87 x) (classOf x87 y); quotient = 0; steps = 0 })
+    × (accepted (u .number) ≡ false → u ≡ record { number = u .number; value = refusedValue f (u .number) X X; says = Exact })
+    × (accepted (v .number) ≡ false → v ≡ record { number = v .number; significand = refusedValue f (v .number) X X; exponent = pos 0 })
 unfolding remainder remainderOf signedRemainder signedOf stepReport runReport scaleReport scaleOf splitReport splitOf
 refused-tells f l κ n b x y k = (λ e. rw e, λ e. rw (e, signed-zero), λ e. rw e, λ e. rw e, λ e. rw e, λ e. rw e)
 
@@ -59,20 +62,21 @@ pub answers-tell : (f : Format) (l : Lent) (κ : Kind) (n b x y : ℕ)
 unfolding remainder remainderOf stepReport runReport
 answers-tell f l κ n b x y = (λ e. rw e, λ e. rw e, λ e. rw e)
 
--- [2.9] and that value is the house NaN
-pub refused-value : (f : Format) → refusedValue f ≡ houseNan f
-refused-value f = refl
+-- [7.1] and that value is the NaN under 3, and the house NaN under any other number
+pub refused-value : (f : Format) (n : ℕ) (x y : Class) → (refusedValue f 3 x y ≡ nanOf f x y) × (eqb n 3 ≡ false → refusedValue f n x y ≡ houseNan f)
+unfolding refusedValue
+refused-value f n x y = (refl, λ e. rw e)
 
 -- ---- the number of a call, by the classes of its operands
 
 some : (n : ℕ) → eqb (suc n) 0 ≡ false
 some n = not-zero (suc n) (omega arith)
 
--- one of each class; every class is among these, for some sign and some count
+-- one of each class; every class is among these, for some sign and some count or significand
 abbrev pub classes : Bool → ℕ → List Class
 classes s n =
     unsupported
-    ∷ nan
+    ∷ nan s n
     ∷ infinite s
     ∷ finite (record { negative = s; count = suc n })
     ∷ finite (record { negative = s; count = 0 })
@@ -82,11 +86,11 @@ pub record Among (c : Class) : Type 0 where
   pub sign : Bool
   pub count : ℕ
   pub place : ℕ
-  pub is : getD (classes sign count) place nan ≡ c
+  pub is : getD (classes sign count) place unsupported ≡ c
 
 pub every-class : (c : Class) → Among c
 every-class unsupported = record { sign = true; count = 0; place = 0; is = refl }
-every-class nan = record { sign = true; count = 0; place = 1; is = refl }
+every-class (nan s n) = record { sign = s; count = n; place = 1; is = refl }
 every-class (infinite s) = record { sign = s; count = 0; place = 2; is = refl }
 every-class (finite v) = go (v .negative) (v .count)
   where
@@ -200,7 +204,7 @@ unsupported-patterns b = go (leb (2 ^ 63) s) (eqb e 0) (eqb e (topField x87)) (e
     e = b / 2 ^ 64 % 2 ^ 15
 
     go : (J z t i n : Bool) (v w : Value)
-        → isUnsupported (cond z (finite v) (cond J (cond t (cond i (infinite n) nan) (finite w)) unsupported)) ≡ not J && not z
+        → isUnsupported (cond z (finite v) (cond J (cond t (cond i (infinite n) (nan n s)) (finite w)) unsupported)) ≡ not J && not z
     go true true t i n v w = refl
     go false true t i n v w = refl
     go true false true true n v w = refl
@@ -212,7 +216,7 @@ unsupported-patterns b = go (leb (2 ^ 63) s) (eqb e 0) (eqb e (topField x87)) (e
 hidden-supported : (l : Layout) → l ≡ Hidden → (f : Format) (n : Bool) (e s : ℕ) → isUnsupported (fieldsClass l f n e s) ≡ false
 hidden-supported Hidden h f n e s = go (eqb e (topField f)) (eqb s 0) _
   where
-    go : (t i : Bool) (v : Value) → isUnsupported (cond t (cond i (infinite n) nan) (finite v)) ≡ false
+    go : (t i : Bool) (v : Value) → isUnsupported (cond t (cond i (infinite n) (nan n s)) (finite v)) ≡ false
     go true true v = refl
     go true false v = refl
     go false i v = refl

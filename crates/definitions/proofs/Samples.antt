@@ -91,7 +91,7 @@ untouched n = record { number = n; results = sevens; quotients = sevens; marked 
 pub fold-truncated : foldList Truncated 0x4000000000000000 readings sevens sevens
     ≡ record {
       number = 0;
-      results = 0x3FF8000000000000 ∷ 0x7FF8000000000000 ∷ 0x8000000000000000 ∷ 0x7FF8000000000000 ∷ 0x3FF0000000000000 ∷ [];
+      results = 0x3FF8000000000000 ∷ 0xFFF8000000000001 ∷ 0x8000000000000000 ∷ 0x7FF8000000000000 ∷ 0x3FF0000000000000 ∷ [];
       quotients = 2 ∷ 255 ∷ 3 ∷ 255 ∷ 3 ∷ [];
       marked = 2;
     }
@@ -101,7 +101,7 @@ fold-truncated = refl
 pub fold-nearest : foldList Nearest 0x4000000000000000 readings sevens sevens
     ≡ record {
       number = 0;
-      results = 0xBFE0000000000000 ∷ 0x7FF8000000000000 ∷ 0x8000000000000000 ∷ 0x7FF8000000000000 ∷ 0xBFF0000000000000 ∷ [];
+      results = 0xBFE0000000000000 ∷ 0xFFF8000000000001 ∷ 0x8000000000000000 ∷ 0x7FF8000000000000 ∷ 0xBFF0000000000000 ∷ [];
       quotients = 3 ∷ 255 ∷ 3 ∷ 255 ∷ 4 ∷ [];
       marked = 2;
     }
@@ -166,26 +166,29 @@ pub kinds : (kindOf 0 ≡ Truncated) × ((k : ℕ) → kindOf (suc k) ≡ Neares
 kinds = (refl, λ k. rw (not-zero (suc k) (omega arith)))
 
 -- the fields of an answer are told as they are, whatever the pattern v: the bits of v, and no other pattern of its value
-pub meanings : (f : Format) (v : Pattern) (q n : ℕ) (r : Rounding) (e : ℤ)
+pub meanings : (v : Pattern) (q n : ℕ) (r : Rounding) (e : ℤ)
     → let b = v .high * 2 ^ 64 + v .low in
-    (remainderMeaning f (rem.Finished v q) ≡ record { number = 0; value = b; quotient = q })
-    × (signedMeaning f (sgn.Finished v e) ≡ record { number = 0; value = b; quotient = e })
+    (remainderMeaning (rem.Finished v q) ≡ record { number = 0; value = b; quotient = q })
+    × (signedMeaning (sgn.Finished v e) ≡ record { number = 0; value = b; quotient = e })
     × (stepMeaning (steps.Finished v q n) ≡ record { number = 0; value = b; quotient = q; steps = n })
     × (stepMeaning (steps.Unfinished v q n) ≡ record { number = 1; value = b; quotient = q; steps = n })
     × (runMeaning (steps.Finished v q n) ≡ record { number = 0; value = b; quotient = q; steps = n })
     × (runMeaning (steps.Unfinished v q n) ≡ record { number = 7; value = b; quotient = q; steps = n })
-    × (scaleMeaning f (scale.Scaled v r) ≡ record { number = 0; value = b; says = r })
-    × (splitMeaning f (split.Parts v e) ≡ record { number = 0; significand = b; exponent = e })
+    × (scaleMeaning (scale.Scaled v r) ≡ record { number = 0; value = b; says = r })
+    × (splitMeaning (split.Parts v e) ≡ record { number = 0; significand = b; exponent = e })
 unfolding remainderMeaning signedMeaning stepsMeaning scaleMeaning splitMeaning
-meanings f v q n r e = (refl, refl, refl, refl, refl, refl, refl, refl)
+meanings v q n r e = (refl, refl, refl, refl, refl, refl, refl, refl)
 
--- [7.5] and a refusal is told by its number alone
-pub refused-meanings : (f : Format) (w : Refusal) (u : ℕ)
-    → (remainderMeaning f (rem.Refused w) ≡ record { number = refusalNumber w; value = houseNan f; quotient = 0 })
-    × (signedMeaning f (sgn.Refused w) ≡ record { number = refusalNumber w; value = houseNan f; quotient = pos 0 })
-    × (stepsMeaning u (steps.Refused w) ≡ record { number = refusalNumber w; value = houseNan x87; quotient = 0; steps = 0 })
-unfolding remainderMeaning signedMeaning stepsMeaning
-refused-meanings f w u = (refl, refl, refl)
+-- [7.5] and those of a refusal: its number and its value, and nothing else
+pub refused-meanings : (w : Refusal) (v : Pattern) (u : ℕ)
+    → let b = v .high * 2 ^ 64 + v .low in
+    (remainderMeaning (rem.Refused w v) ≡ record { number = refusalNumber w; value = b; quotient = 0 })
+    × (signedMeaning (sgn.Refused w v) ≡ record { number = refusalNumber w; value = b; quotient = pos 0 })
+    × (stepsMeaning u (steps.Refused w v) ≡ record { number = refusalNumber w; value = b; quotient = 0; steps = 0 })
+    × (scaleMeaning (scale.Refused w v) ≡ record { number = refusalNumber w; value = b; says = Exact })
+    × (splitMeaning (split.Refused w v) ≡ record { number = refusalNumber w; significand = b; exponent = pos 0 })
+unfolding remainderMeaning signedMeaning stepsMeaning scaleMeaning splitMeaning
+refused-meanings w v u = (refl, refl, refl, refl, refl)
 
 -- [7.1] the number of each refusal of the code
 pub refusal-numbers : map refusalNumber (why.BadLength ∷ why.BadSize ∷ why.Unsupported ∷ why.Nan ∷ why.Infinite ∷ why.ZeroDivisor ∷ why.ZeroSplit ∷ [])
@@ -232,7 +235,7 @@ unfolding outputFor lineFor remainder size gap classOf patternOf magnitude first
 users-lines = refl
 
 pub more-lines : outputFor (text "c08fffffFFFFFFFF 3fe0000000000001\n\n7FF0000000000001 0000000000000000\nfff0000000000000 7FF0000000000000\n407FF00000000000 4000000000000000")
-    ≡ text "BFDFFFFFFFFFE802 7 0\nbad line\n7FF8000000000000 0 3\n7FF8000000000000 0 4\n3FF0000000000000 7 0\n"
+    ≡ text "BFDFFFFFFFFFE802 7 0\nbad line\n7FF8000000000001 0 3\n7FF8000000000000 0 4\n3FF0000000000000 7 0\n"
 unfolding outputFor lineFor remainder size gap classOf patternOf magnitude first finish
 more-lines = refl
 

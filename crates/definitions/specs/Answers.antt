@@ -15,8 +15,8 @@ use Rattle.definitions.specs.declared.ScaleAnswer.{ScaleAnswer}
 use Rattle.definitions.specs.declared.ScaleAnswer.the-variants as scale
 use Rattle.definitions.specs.declared.SplitAnswer.{SplitAnswer}
 use Rattle.definitions.specs.declared.SplitAnswer.the-variants as split
-use Rattle.definitions.specs.Format.{Format, x87, words}
-use Rattle.definitions.specs.Remainder.{Remainder, refusedValue}
+use Rattle.definitions.specs.Format.{words}
+use Rattle.definitions.specs.Remainder.{Remainder}
 use Rattle.definitions.specs.Signed.{SignedRemainder}
 use Rattle.definitions.specs.Reports.{Report}
 use Rattle.definitions.specs.Scale.{ScaleReport, SplitReport}
@@ -35,19 +35,19 @@ refusalNumber why.ZeroSplit = 8
 abbrev pub joined : Pattern → ℕ
 joined p = words (p .high) (p .low)
 
-unfoldable pub remainderMeaning : Format → RemainderAnswer → Remainder
-remainderMeaning f (rem.Finished v q) = record { number = 0; value = joined v; quotient = q }
-remainderMeaning f (rem.Refused w) = record { number = refusalNumber w; value = refusedValue f; quotient = 0 }
+unfoldable pub remainderMeaning : RemainderAnswer → Remainder
+remainderMeaning (rem.Finished v q) = record { number = 0; value = joined v; quotient = q }
+remainderMeaning (rem.Refused w v) = record { number = refusalNumber w; value = joined v; quotient = 0 }
 
-unfoldable pub signedMeaning : Format → SignedAnswer → SignedRemainder
-signedMeaning f (sgn.Finished v q) = record { number = 0; value = joined v; quotient = q }
-signedMeaning f (sgn.Refused w) = record { number = refusalNumber w; value = refusedValue f; quotient = pos 0 }
+unfoldable pub signedMeaning : SignedAnswer → SignedRemainder
+signedMeaning (sgn.Finished v q) = record { number = 0; value = joined v; quotient = q }
+signedMeaning (sgn.Refused w v) = record { number = refusalNumber w; value = joined v; quotient = pos 0 }
 
 -- a call of which an unfinished one has the number u. A refused call reports no steps.
 unfoldable pub stepsMeaning : ℕ → StepsAnswer → Report ℕ
 stepsMeaning u (steps.Finished v q s) = record { number = 0; value = joined v; quotient = q; steps = s }
 stepsMeaning u (steps.Unfinished v q s) = record { number = u; value = joined v; quotient = q; steps = s }
-stepsMeaning u (steps.Refused w) = record { number = refusalNumber w; value = refusedValue x87; quotient = 0; steps = 0 }
+stepsMeaning u (steps.Refused w v) = record { number = refusalNumber w; value = joined v; quotient = 0; steps = 0 }
 
 -- [7.1] an unfinished step is 1, and an unfinished run 7
 abbrev pub stepMeaning : StepsAnswer → Report ℕ
@@ -56,10 +56,10 @@ stepMeaning = stepsMeaning 1
 abbrev pub runMeaning : StepsAnswer → Report ℕ
 runMeaning = stepsMeaning 7
 
-unfoldable pub scaleMeaning : Format → ScaleAnswer → ScaleReport
-scaleMeaning f (scale.Scaled v r) = record { number = 0; value = joined v; says = r }
-scaleMeaning f (scale.Refused w) = record { number = refusalNumber w; value = refusedValue f; says = Exact }
+unfoldable pub scaleMeaning : ScaleAnswer → ScaleReport
+scaleMeaning (scale.Scaled v r) = record { number = 0; value = joined v; says = r }
+scaleMeaning (scale.Refused w v) = record { number = refusalNumber w; value = joined v; says = Exact }
 
-unfoldable pub splitMeaning : Format → SplitAnswer → SplitReport
-splitMeaning f (split.Parts s e) = record { number = 0; significand = joined s; exponent = e }
-splitMeaning f (split.Refused w) = record { number = refusalNumber w; significand = refusedValue f; exponent = pos 0 }
+unfoldable pub splitMeaning : SplitAnswer → SplitReport
+splitMeaning (split.Parts s e) = record { number = 0; significand = joined s; exponent = e }
+splitMeaning (split.Refused w v) = record { number = refusalNumber w; significand = joined v; exponent = pos 0 }

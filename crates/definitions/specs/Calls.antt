@@ -10,6 +10,7 @@ use lib.IntN.{natAbs, _+ℤ_, _*ℤ_}
 use Rattle.definitions.specs.Class.{Value, valueOf, gap}
 use Rattle.definitions.specs.Format.{classOf, ordinary, x87}
 use Rattle.definitions.specs.Numbers.{accepted}
+use Rattle.definitions.specs.Facts.{denormal, toldDenormal}
 use Rattle.definitions.specs.declared.Kind.{Kind}
 use Rattle.definitions.specs.Division.{Divisor, by, dividendOf}
 use Rattle.definitions.specs.Remainder.{remainder, quotientModulus, quotientBits}
@@ -77,6 +78,12 @@ totalSteps (t ∷ ts) = t .report .steps + totalSteps ts
 unfoldable pub totalQuotient : {A : Type 0} → List (Made A) → ℕ
 totalQuotient [] = 0
 totalQuotient (t ∷ ts) = (t .report .quotient + totalQuotient ts) % quotientModulus
+
+-- [5.10] what accepted calls by y tell of denormal operands, joined: what the first of them tells, and no where there is none
+unfoldable pub firstDenormal : ℕ → List (Made ℕ) → Bool
+unfolding denormal
+firstDenormal y [] = false
+firstDenormal y (t ∷ ts) = toldDenormal x87 (t .report .number) (t .handed) y
 
 -- the sum of the budgets of calls, a step being a budget of one
 abbrev pub budgetOf : Call → ℕ
@@ -178,6 +185,8 @@ pub record EveryList (κ : Kind) (x y : ℕ) (v w : Value) (cs : List Call) (ts 
   -- [5.2, 2.10] the last value is the dividend as it was given where no call was accepted, and else an ordinary pattern
   pub given : anyAccepted ts ≡ false → lastValue x (answers ts) ≡ x
   pub returned : anyAccepted ts ≡ true → ordinary x87 (lastValue x (answers ts)) ≡ true
+  -- [5.10] what is told of denormal operands is what the remainder in one call (whole) and one run (one) tell of the dividend as it was given
+  pub denormal : anyAccepted ts ≡ true → firstDenormal y (answers ts) ≡ toldDenormal x87 (lastNumber 7 (answers ts)) x y
   -- [4.10]
   pub exact : valueOf v ≡ valueOf (valueAt (lastValue x (answers ts))) +ℤ valueOf w *ℤ partsSum w (links κ w ts)
   -- [5.8]

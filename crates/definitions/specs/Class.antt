@@ -11,9 +11,10 @@ pub record Value : Type 0 where
   pub negative : Bool
   pub count : ℕ
 
--- [1.2] what any bit pattern stands for
+-- [1.2] what any bit pattern stands for. A NaN keeps its pattern: its sign, and its significand as it is stored
 pub data Class : Type 0 where
-  unsupported nan : Class
+  unsupported : Class
+  nan : (negative : Bool) (stored : ℕ) → Class
   infinite : Bool → Class
   finite : Value → Class
 

@@ -6,7 +6,7 @@ use lib.IntN.{pos, natAbs, _-ℤ_}
 use lib.Signed.{ltZ}
 use lib.Ieee.{size}
 use Rattle.definitions.specs.Class.{Value, Class, unsupported, nan, infinite, finite, valueOf}
-use Rattle.definitions.specs.Format.{Format, classOf, patternOf, exponentOf}
+use Rattle.definitions.specs.Format.{Format, classOf, patternOf, exponentOf, house}
 use Rattle.definitions.specs.Round.{round}
 
 -- [11.9] x - y, exact; where nothing is left it is -0 only for -0 less +0
@@ -29,17 +29,17 @@ unfoldable pub differenceValue : Format → Value → Value → Class
 unfolding exactDifference roundedTo limited
 differenceValue f x y = let d = exactDifference x y in limited f (d .negative) (roundedTo (f .precision) (d .count))
 
--- and of any two classes, as IEEE 754 has it; an infinity less one of the same sign is a NaN
+-- and of any two classes, as IEEE 754 has it; an infinity less one of the same sign is a NaN. A NaN is the house NaN
 unfoldable pub differenceClass : Format → Class → Class → Class
 unfolding differenceValue
-differenceClass f unsupported y = nan
-differenceClass f nan y = nan
-differenceClass f (infinite s) unsupported = nan
-differenceClass f (infinite s) nan = nan
-differenceClass f (infinite s) (infinite t) = cond (Bool·beq s t) nan (infinite s)
+differenceClass f unsupported y = house f
+differenceClass f (nan n t) y = house f
+differenceClass f (infinite s) unsupported = house f
+differenceClass f (infinite s) (nan n t) = house f
+differenceClass f (infinite s) (infinite t) = cond (Bool·beq s t) (house f) (infinite s)
 differenceClass f (infinite s) (finite y) = infinite s
-differenceClass f (finite x) unsupported = nan
-differenceClass f (finite x) nan = nan
+differenceClass f (finite x) unsupported = house f
+differenceClass f (finite x) (nan n t) = house f
 differenceClass f (finite x) (infinite t) = infinite (not t)
 differenceClass f (finite x) (finite y) = differenceValue f x y
 

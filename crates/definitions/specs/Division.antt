@@ -45,12 +45,12 @@ finish κ (by m) x = finishBy κ m x
 -- the operands of an accepted call; of a refused one they are not looked at
 abbrev pub dividendOf : Class → Value
 dividendOf unsupported = record { negative = false; count = 0 }
-dividendOf nan = record { negative = false; count = 0 }
+dividendOf (nan n s) = record { negative = false; count = 0 }
 dividendOf (infinite n) = record { negative = false; count = 0 }
 dividendOf (finite v) = v
 
 abbrev pub divisorOf : Class → Divisor
 divisorOf unsupported = unbounded
-divisorOf nan = unbounded
+divisorOf (nan n s) = unbounded
 divisorOf (infinite n) = unbounded
 divisorOf (finite v) = by (v .count)

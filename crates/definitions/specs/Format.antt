@@ -1,8 +1,8 @@
 -- The four formats, what their patterns stand for, and the pattern of a value. A pattern is one number; x87's is its 16-bit word
 -- times 2 ^ 64, plus its significand. Definitions only.
-use Prim.Native.Nat.{ℕ, _+_, _-_, _*_, _/_, _%_, _^_, _≤_}
+use Prim.Native.Nat.{ℕ, _+_, _-_, _*_, _/_, _%_, _^_, _≤_, _<_}
 use mathlib.Core.Path.{_≡_}
-use mathlib.Core.Bool.{Bool, not, cond, _&&_}
+use mathlib.Core.Bool.{Bool, false, not, cond, _&&_}
 use lib.Dec.{leb, eqb}
 use lib.IntN.{ℤ, pos, negsuc, _+ℤ_}
 use lib.Ieee.{size}
@@ -64,7 +64,7 @@ patterns f = 2 * signWeight f
 -- [2.3] what a sign, an exponent field e and the stored significand s stand for, in an interchange format
 abbrev pub hiddenClass : Format → Bool → ℕ → ℕ → Class
 hiddenClass f n e s =
-    cond (eqb e (topField f)) (cond (eqb s 0) (infinite n) nan)
+    cond (eqb e (topField f)) (cond (eqb s 0) (infinite n) (nan n s))
     (finite (record { negative = n; count = cond (eqb e 0) s ((leading f + s) * 2 ^ (e - 1)) }))
 
 -- [2.4, 2.5, 2.6] the same with an explicit leading digit J, which the field 0 may have too
@@ -73,7 +73,7 @@ explicitClass f n e s =
     let J = leb (leading f) s in
     cond (eqb e 0) (finite (record { negative = n; count = s }))
     (cond J
-    (cond (eqb e (topField f)) (cond (eqb s (leading f)) (infinite n) nan) (finite (record { negative = n; count = s * 2 ^ (e - 1) })))
+    (cond (eqb e (topField f)) (cond (eqb s (leading f)) (infinite n) (nan n s)) (finite (record { negative = n; count = s * 2 ^ (e - 1) })))
     unsupported)
 
 abbrev pub fieldsClass : Layout → Format → Bool → ℕ → ℕ → Class
@@ -104,6 +104,10 @@ quiet Explicit h = h + h / 2
 abbrev pub houseNan : Format → ℕ
 houseNan f = topField f * fieldWeight f + quiet (f .layout) (leading f)
 
+-- what it stands for
+abbrev pub house : Format → Class
+house f = nan false (quiet (f .layout) (leading f))
+
 -- and an infinity: its stored significand, and its pattern without the sign
 abbrev pub infinity : Layout → ℕ → ℕ
 infinity Hidden h = 0
@@ -115,7 +119,7 @@ infinityBody f = topField f * fieldWeight f + infinity (f .layout) (leading f)
 -- the one pattern that a class is written as
 unfoldable pub patternOf : Format → Class → ℕ
 patternOf f unsupported = houseNan f
-patternOf f nan = houseNan f
+patternOf f (nan n s) = withSign f n (topField f * fieldWeight f + s)
 patternOf f (infinite n) = withSign f n (infinityBody f)
 patternOf f (finite v) = withSign f (v .negative) (magnitude f (v .count))
 
@@ -123,7 +127,7 @@ patternOf f (finite v) = withSign f (v .negative) (magnitude f (v .count))
 unfoldable pub ordinary : Format → ℕ → Bool
 ordinary f b = not (eqb (b / fieldWeight f % (topField f + 1)) 0 && leb (leading f) (b % fieldWeight f))
 
--- [2.10] the ordinary pattern of what a pattern stands for; of a NaN and of an unsupported one, the house NaN
+-- [2.10] the ordinary pattern of what a pattern stands for; of an unsupported one, the house NaN
 abbrev pub ordinaryOf : Format → ℕ → ℕ
 ordinaryOf f b = patternOf f (classOf f b)
 
@@ -144,10 +148,16 @@ pub record Representable (f : Format) (n : ℕ) : Type 0 where
   pub digits : Digits (f .precision) n
   pub range : size n ≤ reach f
 
--- a class whose count, if it has one, the format holds
+-- the stored significand of a NaN: with its leading digit, and not that of an infinity
+pub record NanStored (f : Format) (s : ℕ) : Type 0 where
+  pub below : s < fieldWeight f
+  pub leads : leading f ≤ hiddenPart (f .layout) (leading f) + s
+  pub more : s ≡ infinity (f .layout) (leading f) → ⊥
+
+-- a class whose count or significand, if it has one, the format holds
 abbrev pub Holds : Format → Class → Type 0
 Holds f unsupported = Unit {0}
-Holds f nan = Unit {0}
+Holds f (nan n s) = NanStored f s
 Holds f (infinite n) = Unit {0}
 Holds f (finite v) = Representable f (v .count)
 

@@ -2,6 +2,7 @@
 pub mod Class
 pub mod Format
 pub mod Numbers
+pub mod Facts
 pub mod Division
 pub mod Remainder
 pub mod Signed

@@ -35,25 +35,25 @@ accepted n = eqb n 0 || eqb n 1 || eqb n 7
 -- the tests on operands
 abbrev pub isUnsupported : Class → Bool
 isUnsupported unsupported = true
-isUnsupported nan = false
+isUnsupported (nan n s) = false
 isUnsupported (infinite n) = false
 isUnsupported (finite v) = false
 
 abbrev pub isNan : Class → Bool
 isNan unsupported = false
-isNan nan = true
+isNan (nan n s) = true
 isNan (infinite n) = false
 isNan (finite v) = false
 
 abbrev pub isInfinite : Class → Bool
 isInfinite unsupported = false
-isInfinite nan = false
+isInfinite (nan n s) = false
 isInfinite (infinite n) = true
 isInfinite (finite v) = false
 
 abbrev pub isZero : Class → Bool
 isZero unsupported = false
-isZero nan = false
+isZero (nan n s) = false
 isZero (infinite n) = false
 isZero (finite v) = eqb (v .count) 0
 

@@ -6,9 +6,10 @@ use lib.Dec.{leb, eqb}
 use Rattle.definitions.specs.Class.{Class, finite}
 use Rattle.definitions.specs.Format.{classOf, patternOf, x87}
 use Rattle.definitions.specs.Numbers.{Check, check, first, accepted, dividing}
+use Rattle.definitions.specs.Facts.{refusedValue}
 use Rattle.definitions.specs.declared.Kind.{Kind}
 use Rattle.definitions.specs.Division.{Outcome, dividendOf, divisorOf}
-use Rattle.definitions.specs.Remainder.{quotientBits, refusedValue}
+use Rattle.definitions.specs.Remainder.{quotientBits}
 use Rattle.definitions.specs.Steps.{step, run}
 
 -- what a call says: its number, its value, the quotient bits and the steps
@@ -45,12 +46,12 @@ stepping l n x y partial = calling l n ++ (dividing x y ++ (check 1 partial ∷ 
 abbrev pub running : Lent → ℕ → Class → Class → Bool → List Check
 running l n x y spent = calling l n ++ (dividing x y ++ (check 7 spent ∷ []))
 
--- [2.9, 7.5] a refusal shows the house NaN and has no quotient bits and no steps
-abbrev pub reportOf : ℕ → Outcome → Report ℕ
-reportOf n r =
+-- [7.1, 7.5] a refusal returns w and has no quotient bits and no steps
+abbrev pub reportOf : ℕ → ℕ → Outcome → Report ℕ
+reportOf w n r =
     record {
       number = n;
-      value = cond (accepted n) (patternOf x87 (finite (r .value))) (refusedValue x87);
+      value = cond (accepted n) (patternOf x87 (finite (r .value))) w;
       quotient = cond (accepted n) (quotientBits (r .whole)) 0;
       steps = cond (accepted n) (r .steps) 0;
     }
@@ -63,18 +64,20 @@ runOutcome κ n b x y = run κ n b (divisorOf y) (dividendOf x)
 
 -- [4.1] a step of size n on the patterns x and y
 unfoldable pub stepReport : Lent → Kind → ℕ → ℕ → ℕ → Report ℕ
-unfolding first
+unfolding first refusedValue
 stepReport l κ n x y =
     let a = classOf x87 x in
     let b = classOf x87 y in
     let r = stepOutcome κ n a b in
-    reportOf (first (stepping l n a b (not (r .done)))) r
+    let k = first (stepping l n a b (not (r .done))) in
+    reportOf (refusedValue x87 k a b) k r
 
 -- [4.6, 4.8] a run of size n with a budget
 unfoldable pub runReport : Lent → Kind → ℕ → ℕ → ℕ → ℕ → Report ℕ
-unfolding first
+unfolding first refusedValue
 runReport l κ n budget x y =
     let a = classOf x87 x in
     let b = classOf x87 y in
     let r = runOutcome κ n budget a b in
-    reportOf (first (running l n a b (not (r .done)))) r
+    let k = first (running l n a b (not (r .done))) in
+    reportOf (refusedValue x87 k a b) k r

@@ -11,7 +11,8 @@ use Rattle.definitions.specs.declared.Rounding.the-variants.{Exact, Down
 use Rattle.definitions.specs.Reports.{nothing, block}
 use Rattle.definitions.specs.Table.{Reading, reading, divide, divideSigned, step, twoSteps, run, scale, split, value, signedValue, steps, scaled, parts}
 
--- every refusal, in every operation on patterns that knows it: the house NaN, nothing else, and the first number that applies
+-- every refusal, in every operation on patterns that knows it: the first number that applies, under 3 the NaN and else the house NaN, and
+-- nothing else
 unfoldable pub refusals : List Reading
 refusals =
     -- 2: unnormals from the lowest field on, an infinity and a NaN without J; before a NaN on the other side
@@ -24,13 +25,13 @@ refusals =
     ∷ reading (scale x87 0x00010000000000000000 (pos 1)) (scaled 2 0x7FFFC000000000000000 Exact)
     ∷ reading (split x87 0x7FFF0000000000000000) (parts 2 0x7FFFC000000000000000 (pos 0))
     -- 3: a NaN, before an infinite dividend and a zero divisor
-    ∷ reading (divide binary16 Truncated 0xFC01 0x0000) (value 3 0x7E00 0)
-    ∷ reading (divide binary32 Nearest 0x7F800000 0x7FC00001) (value 3 0x7FC00000 0)
-    ∷ reading (divide binary64 Truncated 0xFFF8000000000000 0x3FF0000000000000) (value 3 0x7FF8000000000000 0)
-    ∷ reading (step nothing Nearest 32 0x7FFF8000000000000000 0xFFFFA000000000000000) (steps 3 0x7FFFC000000000000000 0 0)
-    ∷ reading (run nothing Truncated 32 9 0x7FFFC000000000000001 0x00000000000000000000) (steps 3 0x7FFFC000000000000000 0 0)
-    ∷ reading (scale binary64 0x7FF0000000000001 (negsuc 0)) (scaled 3 0x7FF8000000000000 Exact)
-    ∷ reading (split binary32 0xFFC00000) (parts 3 0x7FC00000 (pos 0))
+    ∷ reading (divide binary16 Truncated 0xFC01 0x0000) (value 3 0xFE01 0)
+    ∷ reading (divide binary32 Nearest 0x7F800000 0x7FC00001) (value 3 0x7FC00001 0)
+    ∷ reading (divide binary64 Truncated 0xFFF8000000000000 0x3FF0000000000000) (value 3 0xFFF8000000000000 0)
+    ∷ reading (step nothing Nearest 32 0x7FFF8000000000000000 0xFFFFA000000000000000) (steps 3 0xFFFFE000000000000000 0 0)
+    ∷ reading (run nothing Truncated 32 9 0x7FFFC000000000000001 0x00000000000000000000) (steps 3 0x7FFFC000000000000001 0 0)
+    ∷ reading (scale binary64 0x7FF0000000000001 (negsuc 0)) (scaled 3 0x7FF8000000000001 Exact)
+    ∷ reading (split binary32 0xFFC00000) (parts 3 0xFFC00000 (pos 0))
     -- 4: an infinite dividend, before a zero divisor; an infinity that is split
     ∷ reading (divide binary32 Truncated 0xFF800000 0x00000000) (value 4 0x7FC00000 0)
     ∷ reading (divide binary16 Nearest 0x7C00 0x7C00) (value 4 0x7E00 0)
@@ -161,6 +162,37 @@ signedQuotients =
     ∷ reading (divideSigned binary64 Nearest 0xBFF0000000000000 0x7FF8000000000000) (signedValue 3 0x7FF8000000000000 (pos 0))
     ∷ reading (divideSigned binary16 Truncated 0xFC00 0x4000) (signedValue 4 0x7E00 (pos 0))
     ∷ reading (divideSigned binary32 Nearest 0xC0B00000 0x00000000) (signedValue 5 0x7FC00000 (pos 0))
+    ∷ []
+
+-- [2.11, 2.12] the NaN that is returned
+unfoldable pub nans : List Reading
+nans =
+    -- one NaN, on either side, beside each kind of number; quiet and not
+    reading (divide binary16 Truncated 0x7C01 0x3C00) (value 3 0x7E01 0)
+    ∷ reading (divide binary16 Nearest 0x8000 0xFDFF) (value 3 0xFFFF 0)
+    ∷ reading (divide binary32 Truncated 0xFFC12345 0xFF800000) (value 3 0xFFC12345 0)
+    ∷ reading (divide binary64 Nearest 0x7FF0000000000000 0xFFF0000000000001) (value 3 0xFFF8000000000001 0)
+    ∷ reading (divide x87 Truncated 0x00008000000000000000 0xFFFF8000000000000001) (value 3 0xFFFFC000000000000001 0)
+    -- two: the larger significand, on either side; a quiet one's is larger
+    ∷ reading (divide binary16 Truncated 0x7C01 0xFC02) (value 3 0xFE02 0)
+    ∷ reading (divide binary16 Nearest 0x7C02 0xFC01) (value 3 0x7E02 0)
+    ∷ reading (divide binary32 Truncated 0xFFBFFFFF 0x7FC00000) (value 3 0x7FC00000 0)
+    ∷ reading (divide binary64 Nearest 0xFFF8000000000000 0x7FF7FFFFFFFFFFFF) (value 3 0xFFF8000000000000 0)
+    ∷ reading (divide x87 Nearest 0x7FFFBFFFFFFFFFFFFFFF 0xFFFFC000000000000000) (value 3 0xFFFFC000000000000000 0)
+    -- equal ones: the dividend's, whatever its sign
+    ∷ reading (divide binary32 Truncated 0xFF800001 0x7F800001) (value 3 0xFFC00001 0)
+    ∷ reading (divide binary64 Nearest 0x7FF0000000000001 0xFFF0000000000001) (value 3 0x7FF8000000000001 0)
+    ∷ reading (divideSigned x87 Truncated 0xFFFF8000000000000001 0x7FFF8000000000000001) (signedValue 3 0xFFFFC000000000000001 (pos 0))
+    -- a step, a run that has no budget, scaling and splitting
+    ∷ reading (step nothing Truncated 63 0x7FFF8000000000000001 0xFFFF8000000000000002) (steps 3 0xFFFFC000000000000002 0 0)
+    ∷ reading (run nothing Nearest 32 0 0xFFFF8000000000000002 0x7FFF8000000000000001) (steps 3 0xFFFFC000000000000002 0 0)
+    ∷ reading (scale x87 0xFFFF8000000000000001 (pos 5)) (scaled 3 0xFFFFC000000000000001 Exact)
+    ∷ reading (scale binary16 0xFFFF (negsuc 5)) (scaled 3 0xFFFF Exact)
+    ∷ reading (split binary64 0xFFF0000000000001) (parts 3 0xFFF8000000000001 (pos 0))
+    -- under 2, 6 and 9 the house NaN, whatever the operands
+    ∷ reading (divide x87 Nearest 0xFFFFC000000000000001 0x00010000000000000000) (value 2 0x7FFFC000000000000000 0)
+    ∷ reading (step nothing Truncated 64 0xFFFFC000000000000001 0xFFFFC000000000000002) (steps 6 0x7FFFC000000000000000 0 0)
+    ∷ reading (run (block 16) Truncated 63 1 0xFFFFC000000000000001 0xFFFFC000000000000002) (steps 9 0x7FFFC000000000000000 0 0)
     ∷ []
 
 -- ---- texts as bytes

@@ -10,7 +10,7 @@ use Rattle.definitions.specs.Class.{Value, Class, unsupported, nan, infi
 use Rattle.definitions.specs.Format.{Format, classOf, patternOf, exponentOf}
 use Rattle.definitions.specs.Numbers.{Check, check, first, accepted, isUnsupported, isNan, isInfinite, isZero}
 use Rattle.definitions.specs.Division.{dividendOf}
-use Rattle.definitions.specs.Remainder.{refusedValue}
+use Rattle.definitions.specs.Facts.{refusedValue}
 use Rattle.definitions.specs.declared.Rounding.{Rounding}
 use Rattle.definitions.specs.declared.Rounding.the-variants.{Exact, Up}
 use Rattle.definitions.specs.Round.{round}
@@ -34,7 +34,7 @@ scaleValue f v (negsuc k) = let c = round (v .count) (suc k) in bounded f (v .ne
 unfoldable pub scaleClass : Format → Class → ℤ → Scaled
 unfolding scaleValue
 scaleClass f unsupported k = record { class = unsupported; says = Exact }
-scaleClass f nan k = record { class = nan; says = Exact }
+scaleClass f (nan n s) k = record { class = nan n s; says = Exact }
 scaleClass f (infinite s) k = record { class = infinite s; says = Exact }
 scaleClass f (finite v) k = let a = scaleValue f v k in cond (eqb (v .count) 0) (record { class = finite v; says = Exact }) a
 
@@ -49,11 +49,11 @@ pub record ScaleReport : Type 0 where
 
 -- [7.5] what x stands for, scaled by 2 ^ k; a refusal says exact
 unfoldable pub scaleOf : Format → Class → ℤ → ScaleReport
-unfolding first scaleClass
+unfolding first scaleClass refusedValue
 scaleOf f x k =
     let n = first (scaling x) in
     let s = scaleClass f x k in
-    record { number = n; value = cond (accepted n) (patternOf f (s .class)) (refusedValue f); says = cond (accepted n) (s .says) Exact }
+    record { number = n; value = cond (accepted n) (patternOf f (s .class)) (refusedValue f n x x); says = cond (accepted n) (s .says) Exact }
 
 -- the pattern x scaled by 2 ^ k
 unfoldable pub scaleReport : Format → ℕ → ℤ → ScaleReport
@@ -75,13 +75,13 @@ pub record SplitReport : Type 0 where
 
 -- [6.6, 7.5] what x stands for, split; a refusal has the exponent 0
 unfoldable pub splitOf : Format → Class → SplitReport
-unfolding first significandOf
+unfolding first significandOf refusedValue
 splitOf f x =
     let n = first (splitting x) in
     let v = dividendOf x in
     record {
       number = n;
-      significand = cond (accepted n) (patternOf f (finite (significandOf f v))) (refusedValue f);
+      significand = cond (accepted n) (patternOf f (finite (significandOf f v))) (refusedValue f n x x);
       exponent = cond (accepted n) (exponentOf f (v .count)) (pos 0);
     }
 

@@ -10,7 +10,7 @@ use Rattle.definitions.specs.Remainder.{remainderOf}
 -- the sign of an operand; that of one which is always refused is not looked at
 abbrev pub negativeClass : Class → Bool
 negativeClass unsupported = false
-negativeClass nan = false
+negativeClass (nan n s) = false
 negativeClass (infinite n) = n
 negativeClass (finite v) = v .negative
 

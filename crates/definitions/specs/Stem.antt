@@ -45,7 +45,7 @@ originOf (roller p o) = o
 -- [11.4] finite and above zero
 abbrev pub isPositive : Class → Bool
 isPositive unsupported = false
-isPositive nan = false
+isPositive (nan n s) = false
 isPositive (infinite n) = false
 isPositive (finite v) = not (v .negative) && not (eqb (v .count) 0)
 

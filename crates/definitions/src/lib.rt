@@ -27,7 +27,8 @@ pub enum Rounding {
     Down,
 }
 
-// Why a call is refused.
+// Why a call is refused. An answer that is a refusal says with it what is returned as its value: under Nan that NaN, made quiet, and else
+// the house NaN.
 pub enum Refusal {
     BadLength,
     BadSize,
@@ -41,13 +42,13 @@ pub enum Refusal {
 // The remainder of two patterns.
 pub enum RemainderAnswer {
     Finished { value: Pattern, quotient: u32 },
-    Refused(Refusal),
+    Refused { why: Refusal, value: Pattern },
 }
 
 // The same, the quotient with the sign of x/y.
 pub enum SignedAnswer {
     Finished { value: Pattern, quotient: i32 },
-    Refused(Refusal),
+    Refused { why: Refusal, value: Pattern },
 }
 
 // A step, or a run of steps. An unfinished step was partial, and an unfinished run has spent its budget.
@@ -62,17 +63,43 @@ pub enum StepsAnswer {
         quotient: u32,
         steps: u32,
     },
-    Refused(Refusal),
+    Refused { why: Refusal, value: Pattern },
 }
 
 // A value scaled by a power of two.
 pub enum ScaleAnswer {
     Scaled { value: Pattern, says: Rounding },
-    Refused(Refusal),
+    Refused { why: Refusal, value: Pattern },
 }
 
 // A value split into a significand from 1 to below 2 and an exponent.
 pub enum SplitAnswer {
     Parts { significand: Pattern, exponent: i32 },
-    Refused(Refusal),
+    Refused { why: Refusal, value: Pattern },
+}
+
+// What the calls on patterns tell: their answers, and whether an operand as it was given is denormal. Under BadSize that is no.
+pub struct RemainderTold {
+    pub answer: RemainderAnswer,
+    pub denormal: bool,
+}
+
+pub struct SignedTold {
+    pub answer: SignedAnswer,
+    pub denormal: bool,
+}
+
+pub struct StepsTold {
+    pub answer: StepsAnswer,
+    pub denormal: bool,
+}
+
+pub struct ScaleTold {
+    pub answer: ScaleAnswer,
+    pub denormal: bool,
+}
+
+pub struct SplitTold {
+    pub answer: SplitAnswer,
+    pub denormal: bool,
 }

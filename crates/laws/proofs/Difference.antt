@@ -12,10 +12,12 @@ use lib.Ieee.{size}
 use Rattle.digits.proofs.Tests.{clash}
 use Rattle.digits.specs.Digits.{Digits}
 use Rattle.definitions.specs.Class.{Value, Class, unsupported, nan, infinite, finite, valueOf}
-use Rattle.definitions.specs.Format.{Format, Regular, Holds, Representable, exponentOf, reach}
+use Rattle.definitions.specs.Format.{Format, Regular, Holds, Representable, exponentOf, reach, house}
+use Rattle.definitions.specs.Numbers.{isNan}
 use Rattle.definitions.specs.Difference.{exactDifference, roundedTo, limited, differenceValue, differenceClass}
 use Rattle.laws.proofs.Gap.{sub-cases}
 use Rattle.laws.proofs.Range.{exponent-above}
+use Rattle.laws.proofs.RoundTrip.{house-holds}
 use Rattle.laws.proofs.RoundedTo.{rounded-digits, rounded-held}
 
 abbrev of : Bool → ℕ → Value
@@ -154,20 +156,46 @@ module _ (f : Format) (r : Regular f) where
       rw (value-is f x y)
       (limited-holds (d .negative) (roundedTo (f .precision) (d .count)) (rounded-digits (f .precision) (d .count) (omega arith)))
 
-  either-holds : (t s : Bool) → Holds f (cond {A = Class} t nan (infinite s))
-  either-holds true s = tt
+  either-holds : (t s : Bool) → Holds f (cond {A = Class} t (house f) (infinite s))
+  either-holds true s = house-holds f r
   either-holds false s = tt
 
   -- every difference is one that the format holds
   pub difference-holds : (c d : Class) → Holds f (differenceClass f c d)
   unfolding differenceClass
-  difference-holds unsupported d = tt
-  difference-holds nan d = tt
-  difference-holds (infinite s) unsupported = tt
-  difference-holds (infinite s) nan = tt
+  difference-holds unsupported d = house-holds f r
+  difference-holds (nan n t) d = house-holds f r
+  difference-holds (infinite s) unsupported = house-holds f r
+  difference-holds (infinite s) (nan n t) = house-holds f r
   difference-holds (infinite s) (infinite t) = either-holds (Bool·beq s t) s
   difference-holds (infinite s) (finite y) = tt
-  difference-holds (finite x) unsupported = tt
-  difference-holds (finite x) nan = tt
+  difference-holds (finite x) unsupported = house-holds f r
+  difference-holds (finite x) (nan n t) = house-holds f r
   difference-holds (finite x) (infinite t) = tt
   difference-holds (finite x) (finite y) = value-holds x y
+
+-- and a NaN among them is the house NaN
+limited-number : (f : Format) (s : Bool) (n : ℕ) → isNan (limited f s n) ≡ false
+unfolding limited
+limited-number f s n = go (ltZ (pos (f .bias)) (exponentOf f n))
+  where
+    go : (b : Bool) → isNan (cond b (infinite s) (finite (record { negative = s; count = n }))) ≡ false
+    go true = refl
+    go false = refl
+
+pub difference-house : (f : Format) (c d : Class) → isNan (differenceClass f c d) ≡ true → differenceClass f c d ≡ house f
+unfolding differenceClass
+difference-house f unsupported d e = refl
+difference-house f (nan n t) d e = refl
+difference-house f (infinite s) unsupported e = refl
+difference-house f (infinite s) (nan n t) e = refl
+difference-house f (infinite s) (infinite t) e = go (Bool·beq s t) e
+  where
+    go : (b : Bool) → isNan (cond {A = Class} b (house f) (infinite s)) ≡ true → cond b (house f) (infinite s) ≡ house f
+    go true n = refl
+    go false n = clash (cc)
+difference-house f (infinite s) (finite y) e = clash (cc)
+difference-house f (finite x) unsupported e = refl
+difference-house f (finite x) (nan n t) e = refl
+difference-house f (finite x) (infinite t) e = clash (cc)
+difference-house f (finite x) (finite y) e = let u = ap isNan (value-is f x y) ∙ limited-number f _ _ in clash (cc)

@@ -9,7 +9,7 @@ use lib.Arith.{lt-of-le-ne}
 use lib.Pow.{pow-mono}
 use Rattle.digits.proofs.Tests.{clash}
 use Rattle.definitions.specs.Class.{Value, finite, infinite, nan}
-use Rattle.definitions.specs.Format.{Format, Regular, topField, leading, fieldWeight, hiddenPart, fieldsClass, body, quiet, infinity}
+use Rattle.definitions.specs.Format.{Format, Regular, NanStored, topField, leading, fieldWeight, hiddenPart, fieldsClass, body, quiet, infinity}
 use Rattle.laws.proofs.Representable.{Placed, leading-twice}
 use Rattle.laws.proofs.Layouts.{number, weight, hidden-le, hidden-infinity, quiet-is, low-read, high-read, top-read, pseudo-read, low-body, high-body, finite-high}
 
@@ -82,9 +82,9 @@ pub record Significand (f : Format) (n : Bool) (e t : ℕ) : Type 0 where
   pub same : fieldsClass (f .layout) f n e t ≡ fieldsClass (f .layout) f n field t
   pub own : (e ≡ 0 → t < leading f) → field ≡ e
 
-not-finite : (b n : Bool) (v : Value) → cond b (infinite n) nan ≡ finite v → ⊥
-not-finite true n v e = clash (cc)
-not-finite false n v e = clash (cc)
+not-finite : (b n : Bool) (t : ℕ) (v : Value) → cond b (infinite n) (nan n t) ≡ finite v → ⊥
+not-finite true n t v e = clash (cc)
+not-finite false n t v e = clash (cc)
 
 zero-fields : (f : Format) → Regular f → (n : Bool) (t : ℕ) → t < fieldWeight f → Significand f n 0 t
 zero-fields f r n t w = go (ltb t (leading f)) (ltb→lt t (leading f)) (nltb→le t (leading f))
@@ -109,7 +109,7 @@ finite-fields f r n zero t v c h w = zero-fields f r n t w
 finite-fields f r n (suc j) t v c h w =
     let g = finite-high (f .layout) f n j t v c in
     let top = top-read (f .layout) f n t g in
-    let no : suc j ≡ topField f → ⊥ = λ q. not-finite (eqb t (infinity (f .layout) (leading f))) n v (sym top ∙ rw q at c) in
+    let no : suc j ≡ topField f → ⊥ = λ q. not-finite (eqb t (infinity (f .layout) (leading f))) n t v (sym top ∙ rw q at c) in
     record {
       field = suc j;
       dropped = j;
@@ -119,8 +119,8 @@ finite-fields f r n (suc j) t v c h w =
       own = λ o. refl;
     }
 
--- ---- the largest field: infinities, and the house NaN
-leading-two : (f : Format) → Regular f → 2 ≤ leading f
+-- ---- the largest field: infinities, NaNs, and the house NaN
+pub leading-two : (f : Format) → Regular f → 2 ≤ leading f
 leading-two f r = pow-mono {i = 1} (omega arith)
 
 pub infinity-rest : (f : Format) → Regular f → infinity (f .layout) (leading f) < fieldWeight f
@@ -135,11 +135,12 @@ infinity-read f n =
     let i = infinity (f .layout) (leading f) in
     top-read (f .layout) f n i (omega (arith, hidden-infinity (f .layout) (leading f))) ∙ rw (eq-eqb i i refl)
 
-pub quiet-read : (f : Format) → Regular f → (n : Bool) → fieldsClass (f .layout) f n (topField f) (quiet (f .layout) (leading f)) ≡ nan
-quiet-read f r n =
-    let i = infinity (f .layout) (leading f) in
-    let q = quiet (f .layout) (leading f) in
+pub nan-read : (f : Format) (n : Bool) (s : ℕ) → NanStored f s → fieldsClass (f .layout) f n (topField f) s ≡ nan n s
+nan-read f n s h = top-read (f .layout) f n s (h .leads) ∙ rw (ne-eqb s (infinity (f .layout) (leading f)) (h .more))
+
+pub quiet-stored : (f : Format) → Regular f → NanStored f (quiet (f .layout) (leading f))
+quiet-stored f r =
     let a = hidden-infinity (f .layout) (leading f) in
     let b = quiet-is (f .layout) (leading f) in
     let two = leading-two f r in
-    top-read (f .layout) f n q (omega arith) ∙ rw (ne-eqb q i (λ e. omega arith))
+    record { below = quiet-rest f r; leads = omega arith; more = λ e. omega arith }

@@ -2,7 +2,7 @@
 use mathlib.Core.Path.{_≡_, refl, sym, _∙_}
 use mathlib.Core.Bool.{Bool, true, false, cond, _&&_}
 use mathlib.Core.List.{List, [], _∷_, map}
-use Prim.Native.Nat.{ℕ, _+_, _<_}
+use Prim.Native.Nat.{ℕ, _+_, _/_, _%_, _^_, _<_}
 use native.Mathlib.Nat.{mod-lt}
 use native.Mathlib.Omega.{arith}
 use borrow.Author.Tests.{eq-eqb, ne-eqb}
@@ -12,16 +12,21 @@ use Rattle.digits.proofs.Tests.{clash}
 use Rattle.definitions.specs.Class.{Value, Class, unsupported, nan, infinite, finite}
 use Rattle.definitions.specs.Format.{binary64, classOf}
 use Rattle.definitions.specs.Numbers.{first, isUnsupported, isNan, isZero}
+use Rattle.definitions.specs.Facts.{refusedValue}
 use Rattle.definitions.specs.Remainder.{remainder, remainderOf, shown, shownModulus}
 use Rattle.definitions.specs.Fold.{Folded, bad, badPlaces, byteAt, dividingList, foldList, resultAt}
 use Rattle.definitions.specs.declared.Kind.{Kind}
 use Rattle.definitions.proofs.Refusals.{folding-numbers, supported}
+use Rattle.laws.proofs.Regular.{regular64}
+use Rattle.laws.proofs.Nan.{quiet-bits, nan-alone}
 
--- [8.3, 8.4] what the place of the dividend x holds: its remainder and what is shown of the quotient, or the marks of a NaN or of an infinity
+-- [8.3, 8.4] what the place of the dividend x holds: its remainder and what is shown of the quotient, or the marks of a NaN, which is that NaN with its
+-- digit 51, or of an infinity
 pub data Place (κ : Kind) (y x result byte : ℕ) : Type 0 where
   folded : (v : Value) (q : ℕ) → classOf binary64 x ≡ finite v → remainder binary64 κ x y ≡ record { number = 0; value = result; quotient = q } → byte ≡ shown q
       → Place κ y x result byte
-  nanMarked : classOf binary64 x ≡ nan → result ≡ 0x7FF8000000000000 → byte ≡ 255 → Place κ y x result byte
+  nanMarked : (n : Bool) (s : ℕ) → classOf binary64 x ≡ nan n s → (x < 2 ^ 64 → result ≡ cond (eqb (x / 2 ^ 51 % 2) 1) x (x + 2 ^ 51)) → byte ≡ 255
+      → Place κ y x result byte
   infinityMarked : (s : Bool) → classOf binary64 x ≡ infinite s → result ≡ 0x7FF8000000000000 → byte ≡ 255 → Place κ y x result byte
 
 -- the same of every place of three lists, which are so of one length
@@ -57,12 +62,12 @@ quotient-shown q = mod-lt q (lit< tt)
 
 module _ (κ : Kind) (y x : ℕ) where
   placed : Divides (classOf binary64 y) → Place κ y x (resultAt κ y x) (byteAt κ y x)
-  unfolding resultAt byteAt remainder remainderOf first
+  unfolding resultAt byteAt remainder remainderOf first refusedValue
   placed d = go (classOf binary64 x) refl (supported binary64 refl x)
     where
       go : (c : Class) → classOf binary64 x ≡ c → isUnsupported c ≡ false → Place κ y x (resultAt κ y x) (byteAt κ y x)
       go unsupported e u = clash (cc)
-      go nan e u = nanMarked e (rw (e, supported binary64 refl y)) (rw e)
+      go (nan n s) e u = nanMarked n s e (λ h. rw (e, supported binary64 refl y) (nan-alone binary64 regular64 (classOf binary64 y) n s (d .0) ∙ quiet-bits binary64 regular64 x n s h e)) (rw e)
       go (infinite s) e u = infinityMarked s e (rw (e, supported binary64 refl y, d .0)) (rw e)
       go (finite v) e u = folded v (remainder binary64 κ x y .quotient) e (rw (e, supported binary64 refl y, d .0, d .1)) (rw e)
 

@@ -42,7 +42,7 @@ positive-period g = go (classOf binary64 (periodOf g)) refl
   where
     go : (c : Class) → classOf binary64 (periodOf g) ≡ c → isPositive c ≡ true → Period g
     go unsupported e p = clash (cc)
-    go nan e p = clash (cc)
+    go (nan n s) e p = clash (cc)
     go (infinite s) e p = clash (cc)
     go (finite w) e p =
         let b = and-both (not (w .negative)) (not (eqb (w .count) 0)) p in
@@ -71,7 +71,7 @@ not-both e s h = go (eqb e 0) (eqb s 0) refl refl
 
 -- what the fields of a pattern say
 fields-positive : (n top low z : Bool) (e s : ℕ) → eqb s 0 ≡ z
-    → isPositive (cond top (cond z (infinite n) nan) (finite (record { negative = n; count = cond low s ((2 ^ 52 + s) * 2 ^ (e - 1)) })))
+    → isPositive (cond top (cond z (infinite n) (nan n s)) (finite (record { negative = n; count = cond low s ((2 ^ 52 + s) * 2 ^ (e - 1)) })))
     ≡ not n && (not top && not (low && z))
 fields-positive true true low true e s q = refl
 fields-positive true true low false e s q = refl
@@ -106,16 +106,16 @@ period-pattern b h =
         rw (eq-eqb (b / 2 ^ 52 % 2048) 2047 (omega arith)) refl
     go false false false p q r = let l = ltb-false 0 b r in let m = ltb-false b infinity64 q in clash (omega arith)
 
-fields-bad : (top z : Bool) (n : Bool) (v : Value) → (let c = cond top (cond z (infinite n) nan) (finite v) in isNan c || isInfinite c) ≡ top
-fields-bad true true n v = refl
-fields-bad true false n v = refl
-fields-bad false z n v = refl
+fields-bad : (top z : Bool) (n : Bool) (s : ℕ) (v : Value) → (let c = cond top (cond z (infinite n) (nan n s)) (finite v) in isNan c || isInfinite c) ≡ top
+fields-bad true true n s v = refl
+fields-bad true false n s v = refl
+fields-bad false z n s v = refl
 
 pub origin-pattern : (b : ℕ) → bad b ≡ leb infinity64 (b % 2 ^ 63)
 unfolding classOf
 origin-pattern b =
     let e = b / 2 ^ 52 % 2048 in
-    fields-bad (eqb e 2047) (eqb (b % 2 ^ 52) 0) (leb (2 ^ 63) b) _ ∙ go (leb infinity64 (b % 2 ^ 63)) refl
+    fields-bad (eqb e 2047) (eqb (b % 2 ^ 52) 0) (leb (2 ^ 63) b) (b % 2 ^ 52) _ ∙ go (leb infinity64 (b % 2 ^ 63)) refl
   where
     go : (t : Bool) → leb infinity64 (b % 2 ^ 63) ≡ t → eqb (b / 2 ^ 52 % 2048) 2047 ≡ t
     go true p = let l = leb-true infinity64 (b % 2 ^ 63) p in eq-eqb (b / 2 ^ 52 % 2048) 2047 (omega arith)
@@ -142,7 +142,7 @@ sort-of x = go (classOf binary64 x) refl (supported binary64 refl x)
   where
     go : (c : Class) → classOf binary64 x ≡ c → isUnsupported c ≡ false → Sort x
     go unsupported e u = clash (cc)
-    go nan e u = none (rw e refl)
+    go (nan n s) e u = none (rw e refl)
     go (infinite s) e u = none (rw e refl)
     go (finite v) e u = number v e
 

@@ -4,7 +4,7 @@ use mathlib.Core.Bool.{Bool, true, false, cond}
 use Prim.Native.Nat.{ℕ, suc, _+_, _-_, _*_, _/_, _^_, _≤_, _<_}
 use native.Mathlib.Nat.{mul-one, zero-add, le-refl, le-add-right}
 use native.Mathlib.Omega.{arith}
-use borrow.Author.Tests.{le-leb, lt-leb, leb-true, ne-eqb, eq-eqb, eqb-true}
+use borrow.Author.Tests.{le-leb, lt-leb, leb-true, ne-eqb, eq-eqb, eqb-true, eqb-false}
 use lib.Dec.{leb, eqb, eqb·suc-zero}
 use lib.Pow.{pow-pos}
 use Rattle.digits.proofs.Tests.{clash}
@@ -58,7 +58,7 @@ high-read Explicit f n j t h g =
     rw (zero-add t, eqb·suc-zero j, le-leb (leading f) t (omega arith), ne-eqb (suc j) (topField f) (omega arith), suc-sub-one j)
 
 pub top-read : (l : Layout) (f : Format) (n : Bool) (t : ℕ) → leading f ≤ hiddenPart l (leading f) + t
-    → fieldsClass l f n (topField f) t ≡ cond (eqb t (infinity l (leading f))) (infinite n) nan
+    → fieldsClass l f n (topField f) t ≡ cond (eqb t (infinity l (leading f))) (infinite n) (nan n t)
 top-read Hidden f n t g = rw (eq-eqb (topField f) (topField f) refl)
 top-read Explicit f n t g = rw (ne-eqb (topField f) 0 (omega arith), le-leb (leading f) t (omega arith), eq-eqb (topField f) (topField f) refl)
 
@@ -87,7 +87,7 @@ finite-high Explicit f n j t v e = go (leb (leading f) t) refl
     go true q = omega (arith, leb-true (leading f) t q)
     go false q = let d = rw (eqb·suc-zero j, q) at e in clash (cc)
 
--- ---- which patterns are infinities
+-- ---- which patterns are infinities, and which NaNs
 pub infinite-top : (l : Layout) (f : Format) (m n : Bool) (e t : ℕ) → fieldsClass l f m e t ≡ infinite n
     → (e ≡ topField f) × (t ≡ infinity l (leading f)) × (m ≡ n)
 infinite-top Hidden f m n e t c = go (eqb e (topField f)) (eqb t 0) refl refl
@@ -105,3 +105,24 @@ infinite-top Explicit f m n e t c = go (eqb e 0) (leb (leading f) t) (eqb e (top
     go false true false b u v p q = let d = rw (u, v, p) at c in clash (cc)
     go false true true false u v p q = let d = rw (u, v, p, q) at c in clash (cc)
     go false true true true u v p q = let d = rw (u, v, p, q) at c in (eqb-true e (topField f) p, eqb-true t (leading f) q, (cc))
+
+pub nan-top : (l : Layout) (f : Format) (m n : Bool) (e t s : ℕ) → fieldsClass l f m e t ≡ nan n s
+    → (e ≡ topField f) × (t ≡ s) × (m ≡ n) × (leading f ≤ hiddenPart l (leading f) + t) × (t ≡ infinity l (leading f) → ⊥)
+nan-top Hidden f m n e t s c = go (eqb e (topField f)) (eqb t 0) refl refl
+  where
+    go : (a b : Bool) → eqb e (topField f) ≡ a → eqb t 0 ≡ b
+        → (e ≡ topField f) × (t ≡ s) × (m ≡ n) × (leading f ≤ leading f + t) × (t ≡ 0 → ⊥)
+    go true true p q = let d = rw (p, q) at c in clash (cc)
+    go true false p q = let d = rw (p, q) at c in (eqb-true e (topField f) p, (cc), (cc), le-add-right (leading f) t, eqb-false t 0 q)
+    go false b p q = let d = rw p at c in clash (cc)
+nan-top Explicit f m n e t s c = go (eqb e 0) (leb (leading f) t) (eqb e (topField f)) (eqb t (leading f)) refl refl refl refl
+  where
+    go : (z j a b : Bool) → eqb e 0 ≡ z → leb (leading f) t ≡ j → eqb e (topField f) ≡ a → eqb t (leading f) ≡ b
+        → (e ≡ topField f) × (t ≡ s) × (m ≡ n) × (leading f ≤ 0 + t) × (t ≡ leading f → ⊥)
+    go true j a b u v p q = let d = rw u at c in clash (cc)
+    go false false a b u v p q = let d = rw (u, v) at c in clash (cc)
+    go false true false b u v p q = let d = rw (u, v, p) at c in clash (cc)
+    go false true true true u v p q = let d = rw (u, v, p, q) at c in clash (cc)
+    go false true true false u v p q =
+        let d = rw (u, v, p, q) at c in
+        (eqb-true e (topField f) p, (cc), (cc), omega (arith, leb-true (leading f) t v), eqb-false t (leading f) q)

@@ -5,6 +5,7 @@ pub mod Layouts
 pub mod Fields
 pub mod Pattern
 pub mod RoundTrip
+pub mod Nan
 pub mod Ordinary
 pub mod Range
 pub mod Division

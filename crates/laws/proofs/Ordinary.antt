@@ -15,12 +15,12 @@ use Rattle.definitions.specs.declared.Layout.the-variants.{Hidden}
 use Rattle.laws.proofs.Layouts.{number, hidden-weight, low-read, pseudo-read}
 use Rattle.laws.proofs.Pattern.{pack, pack-read, pack-ordinary, Packed, packed, rest-small}
 use Rattle.laws.proofs.Regular.{regular80}
-use Rattle.laws.proofs.RoundTrip.{same-count, read-written, read-holds, read-infinite, read-house-nan, written-read, finite-written, written-infinite, pattern-ordinary, infinite-ordinary, house-nan-ordinary}
+use Rattle.laws.proofs.RoundTrip.{same-count, read-written, read-holds, read-infinite, read-nan, written-read, finite-written, written-infinite, pattern-ordinary, infinite-ordinary, nan-ordinary, house-nan-ordinary}
 
 -- what a pattern that is taken stands for
 abbrev pub Numeric : Class → Type 0
 Numeric unsupported = ⊥
-Numeric nan = ⊥
+Numeric (nan n s) = ⊥
 Numeric (infinite s) = Unit {0}
 Numeric (finite v) = Unit {0}
 
@@ -40,7 +40,7 @@ module _ (f : Format) (r : Regular f) where
   pub written-ordinary : (c : Class) → Holds f c → ordinary f (patternOf f c) ≡ true
   unfolding patternOf
   written-ordinary unsupported h = house-nan-ordinary f r
-  written-ordinary nan h = house-nan-ordinary f r
+  written-ordinary (nan n s) h = nan-ordinary f r n s h
   written-ordinary (infinite n) h = infinite-ordinary f r n
   written-ordinary (finite v) h = pattern-ordinary f r v h
 
@@ -55,7 +55,7 @@ module _ (f : Format) (r : Regular f) where
     where
       go : (c : Class) → Holds f c → isUnsupported c ≡ false → classOf f (patternOf f c) ≡ c
       go unsupported h u = clash (cc)
-      go nan h u = read-house-nan f r
+      go (nan n s) h u = read-nan f r n s h
       go (infinite n) h u = read-infinite f r n
       go (finite v) h u = read-written f r v h
 
@@ -65,7 +65,7 @@ module _ (f : Format) (r : Regular f) where
     where
       go : (c : Class) → classOf f b ≡ c → Numeric c → patternOf f c ≡ b
       go unsupported e n = absurd n
-      go nan e n = absurd n
+      go (nan m s) e n = absurd n
       go (infinite s) e n = written-infinite f r b s h e
       go (finite v) e n = written-read f r b v h o e
 

@@ -15,7 +15,7 @@ abbrev pub pack : Format → Bool → ℕ → ℕ → ℕ
 pack f n e t = withSign f n (e * fieldWeight f + t)
 
 module _ (f : Format) (e t : ℕ) (small : e < topField f + 1) (rest : t < fieldWeight f) where
-  as-digits : (n : Bool) → pack f n e t ≡ (cond n 1 0 * (topField f + 1) + e) * fieldWeight f + t
+  pub as-digits : (n : Bool) → pack f n e t ≡ (cond n 1 0 * (topField f + 1) + e) * fieldWeight f + t
   as-digits true = omega arith
   as-digits false = omega arith
 

@@ -6,16 +6,19 @@ use native.Mathlib.Omega.{arith}
 use borrow.Author.Tests.{eqb-false}
 use lib.Dec.{eqb}
 use lib.IntN.{ℤ}
+use Rattle.digits.proofs.Tests.{clash}
 use Rattle.definitions.specs.Class.{Value, Class, unsupported, nan, infinite, finite}
-use Rattle.definitions.specs.Format.{Format, Regular, Representable, Holds, classOf, patternOf, patterns, ordinary}
-use Rattle.definitions.specs.Numbers.{first, accepted}
-use Rattle.definitions.specs.Division.{finish, finishBy}
-use Rattle.definitions.specs.Remainder.{remainderOf, remainder, refusedValue}
-use Rattle.definitions.specs.Scale.{scaleClass, scaleOf, scaleReport, significandOf, splitOf, splitReport}
+use Rattle.definitions.specs.Format.{Format, Regular, Representable, Holds, classOf, patternOf, patterns, ordinary, houseNan}
+use Rattle.definitions.specs.Numbers.{first, accepted, dividing}
+use Rattle.definitions.specs.Facts.{chosen, nanOf, refusedValue}
+use Rattle.definitions.specs.Division.{by, finish, finishBy, dividendOf, divisorOf}
+use Rattle.definitions.specs.Remainder.{remainderOf, remainder}
+use Rattle.definitions.specs.Scale.{scaling, scaleClass, scaleOf, scaleReport, significandOf, splitting, splitOf, splitReport}
 use Rattle.definitions.specs.Difference.{differenceClass, difference}
 use Rattle.definitions.specs.declared.Kind.{Kind}
 use Rattle.laws.proofs.Division.{finish-held}
-use Rattle.laws.proofs.RoundTrip.{pattern-small, read-holds, infinite-small, house-nan-small}
+use Rattle.laws.proofs.RoundTrip.{pattern-small, read-holds, infinite-small, nan-small, house-nan-small}
+use Rattle.laws.proofs.Nan.{quietClass, nan-held}
 use Rattle.laws.proofs.Ordinary.{written-ordinary}
 use Rattle.laws.proofs.Scaling.{scale-class-held}
 use Rattle.laws.proofs.Difference.{difference-holds}
@@ -31,7 +34,7 @@ module _ (f : Format) (r : Regular f) where
   holds-small : (c : Class) → Holds f c → patternOf f c < patterns f
   unfolding patternOf
   holds-small unsupported h = house-nan-small f r
-  holds-small nan h = house-nan-small f r
+  holds-small (nan n s) h = nan-small f r n s h
   holds-small (infinite n) h = infinite-small f r n
   holds-small (finite v) h = pattern-small f r v h
 
@@ -42,69 +45,98 @@ module _ (f : Format) (r : Regular f) where
   result-ordinary k = subst (λ (b : ℕ). ordinary f b ≡ true) (k .is) (written-ordinary f r (k .class) (k .holds))
 
 -- a refusal's value, and an answer's
-pub refused-result : (f : Format) → Result f (refusedValue f)
+pub house-result : (f : Format) → Result f (houseNan f)
 unfolding patternOf
-refused-result f = record { class = nan; holds = tt; is = refl }
+house-result f = record { class = unsupported; holds = tt; is = refl }
+
+pub nan-result : (f : Format) → Regular f → (x y : Class) → Holds f x → Holds f y → Result f (nanOf f x y)
+nan-result f r x y hx hy = let h = nan-held f r x y hx hy in record { class = quietClass f r (chosen x y); holds = h .0; is = h .1 }
+
+pub refused-result : (f : Format) → Regular f → (n : ℕ) (x y : Class) → Holds f x → Holds f y → Result f (refusedValue f n x y)
+unfolding refusedValue
+refused-result f r n x y hx hy = go (eqb n 3)
+  where
+    go : (b : Bool) → Result f (cond b (nanOf f x y) (houseNan f))
+    go true = nan-result f r x y hx hy
+    go false = house-result f
 
 pub value-result : (f : Format) (v : Value) → Representable f (v .count) → Result f (patternOf f (finite v))
 value-result f v h = record { class = finite v; holds = h; is = refl }
 
 module _ (f : Format) (r : Regular f) where
+  -- the value of a refusal by n, or of an answer
+  either-result : (n : ℕ) (x y : Class) (b : ℕ) → Holds f x → Holds f y → (accepted n ≡ true → Result f b) → Result f (cond (accepted n) b (refusedValue f n x y))
+  either-result n x y b hx hy k = go (accepted n) k
+    where
+      go : (t : Bool) → (t ≡ true → Result f b) → Result f (cond t b (refusedValue f n x y))
+      go true h = h refl
+      go false h = refused-result f r n x y hx hy
+
   module _ (κ : Kind) where
-    -- two values: a zero divisor is refused, and by another the result is representable
-    divided-result : (v w : Value) → Representable f (v .count) → Representable f (w .count) → Result f (remainderOf f κ (finite v) (finite w) .value)
-    unfolding remainderOf first finish
+    -- two values: by a divisor that is not zero the result is representable
+    divided-result : (v w : Value) → Representable f (v .count) → Representable f (w .count)
+        → accepted (first (dividing (finite v) (finite w))) ≡ true → Result f (patternOf f (finite (finish κ (by (w .count)) v .value)))
+    unfolding first finish
     divided-result v w hv hw = go (eqb (w .count) 0) refl
       where
-        go : (z : Bool) → eqb (w .count) 0 ≡ z → Result f (cond (accepted (cond {A = ℕ} z 5 0)) (patternOf f (finite (finishBy κ (w .count) v .value))) (refusedValue f))
-        go true e = refused-result f
-        go false e = value-result f (finishBy κ (w .count) v .value) (finish-held f κ (w .count) v (omega (arith, eqb-false (w .count) 0 e)) hw hv)
+        go : (z : Bool) → eqb (w .count) 0 ≡ z → accepted (cond {A = ℕ} z 5 0) ≡ true → Result f (patternOf f (finite (finishBy κ (w .count) v .value)))
+        go true e a = clash (cc)
+        go false e a = value-result f (finishBy κ (w .count) v .value) (finish-held f κ (w .count) v (omega (arith, eqb-false (w .count) 0 e)) hw hv)
 
-    class-result : (a b : Class) → Holds f a → Holds f b → Result f (remainderOf f κ a b .value)
-    unfolding remainderOf first finish
-    class-result unsupported b ha hb = refused-result f
-    class-result nan unsupported ha hb = refused-result f
-    class-result nan nan ha hb = refused-result f
-    class-result nan (infinite t) ha hb = refused-result f
-    class-result nan (finite w) ha hb = refused-result f
-    class-result (infinite s) unsupported ha hb = refused-result f
-    class-result (infinite s) nan ha hb = refused-result f
-    class-result (infinite s) (infinite t) ha hb = refused-result f
-    class-result (infinite s) (finite w) ha hb = refused-result f
-    class-result (finite v) unsupported ha hb = refused-result f
-    class-result (finite v) nan ha hb = refused-result f
-    class-result (finite v) (infinite t) ha hb = value-result f v ha
-    class-result (finite v) (finite w) ha hb = divided-result v w ha hb
+    -- what is accepted: a finite dividend, and a divisor that is a number
+    answer-result : (a b : Class) → Holds f a → Holds f b → accepted (first (dividing a b)) ≡ true
+        → Result f (patternOf f (finite (finish κ (divisorOf b) (dividendOf a) .value)))
+    unfolding first finish
+    answer-result unsupported b ha hb e = clash (cc)
+    answer-result (nan m s) unsupported ha hb e = clash (cc)
+    answer-result (nan m s) (nan n t) ha hb e = clash (cc)
+    answer-result (nan m s) (infinite n) ha hb e = clash (cc)
+    answer-result (nan m s) (finite w) ha hb e = clash (cc)
+    answer-result (infinite m) unsupported ha hb e = clash (cc)
+    answer-result (infinite m) (nan n t) ha hb e = clash (cc)
+    answer-result (infinite m) (infinite n) ha hb e = clash (cc)
+    answer-result (infinite m) (finite w) ha hb e = clash (cc)
+    answer-result (finite v) unsupported ha hb e = clash (cc)
+    answer-result (finite v) (nan n t) ha hb e = clash (cc)
+    answer-result (finite v) (infinite n) ha hb e = value-result f v ha
+    answer-result (finite v) (finite w) ha hb e = divided-result v w ha hb e
 
     pub remainder-result : (x y : ℕ) → Result f (remainder f κ x y .value)
-    unfolding remainder
-    remainder-result x y = class-result (classOf f x) (classOf f y) (read-holds f r x) (read-holds f r y)
+    unfolding remainder remainderOf
+    remainder-result x y =
+        let X = classOf f x in
+        let Y = classOf f y in
+        let hx = read-holds f r x in
+        let hy = read-holds f r y in
+        either-result (first (dividing X Y)) X Y _ hx hy (answer-result X Y hx hy)
 
   pub difference-result : (x y : ℕ) → Result f (difference f x y)
   unfolding difference
   difference-result x y =
       record { class = differenceClass f (classOf f x) (classOf f y); holds = difference-holds f r (classOf f x) (classOf f y); is = refl }
 
-  scaled-result : (x : ℕ) (k : ℤ) (c : Class) → classOf f x ≡ c → Holds f c → Result f (scaleReport f x k .value)
-  unfolding scaleReport scaleOf scaleClass first
-  scaled-result x k unsupported e h = rw e (refused-result f)
-  scaled-result x k nan e h = rw e (refused-result f)
-  scaled-result x k (infinite n) e h = rw e (record { class = infinite n; holds = tt; is = refl })
-  scaled-result x k (finite v) e h = rw e (record { class = scaleClass f (finite v) k .class; holds = scale-class-held f r v h k; is = refl })
+  scaled-result : (c : Class) (k : ℤ) → Holds f c → accepted (first (scaling c)) ≡ true → Result f (patternOf f (scaleClass f c k .class))
+  unfolding scaleClass first
+  scaled-result unsupported k h e = clash (cc)
+  scaled-result (nan n s) k h e = clash (cc)
+  scaled-result (infinite n) k h e = record { class = infinite n; holds = tt; is = refl }
+  scaled-result (finite v) k h e = record { class = scaleClass f (finite v) k .class; holds = scale-class-held f r v h k; is = refl }
 
   pub scale-result : (x : ℕ) (k : ℤ) → Result f (scaleReport f x k .value)
-  scale-result x k = scaled-result x k (classOf f x) refl (read-holds f r x)
+  unfolding scaleReport scaleOf
+  scale-result x k = let X = classOf f x in let h = read-holds f r x in either-result (first (scaling X)) X X _ h h (scaled-result X k h)
 
-  parts-result : (x : ℕ) (c : Class) → classOf f x ≡ c → Holds f c → Result f (splitReport f x .significand)
-  unfolding splitReport splitOf first
-  parts-result x unsupported e h = rw e (refused-result f)
-  parts-result x nan e h = rw e (refused-result f)
-  parts-result x (infinite n) e h = rw e (refused-result f)
-  parts-result x (finite v) e h = rw e (go (eqb (v .count) 0) refl)
+  parts-result : (c : Class) → Holds f c → accepted (first (splitting c)) ≡ true → Result f (patternOf f (finite (significandOf f (dividendOf c))))
+  unfolding first
+  parts-result unsupported h e = clash (cc)
+  parts-result (nan n s) h e = clash (cc)
+  parts-result (infinite n) h e = clash (cc)
+  parts-result (finite v) h a = go (eqb (v .count) 0) refl a
     where
-      go : (z : Bool) → eqb (v .count) 0 ≡ z → Result f (cond (accepted (cond {A = ℕ} z 8 0)) (patternOf f (finite (significandOf f v))) (refusedValue f))
-      go true q = refused-result f
-      go false q = value-result f (significandOf f v) (significand-held f r v (omega (arith, eqb-false (v .count) 0 q)) h)
+      go : (z : Bool) → eqb (v .count) 0 ≡ z → accepted (cond {A = ℕ} z 8 0) ≡ true → Result f (patternOf f (finite (significandOf f v)))
+      go true q e = clash (cc)
+      go false q e = value-result f (significandOf f v) (significand-held f r v (omega (arith, eqb-false (v .count) 0 q)) h)
 
   pub split-result : (x : ℕ) → Result f (splitReport f x .significand)
-  split-result x = parts-result x (classOf f x) refl (read-holds f r x)
+  unfolding splitReport splitOf
+  split-result x = let X = classOf f x in let h = read-holds f r x in either-result (first (splitting X)) X X _ h h (parts-result X h)

@@ -9,10 +9,10 @@ use lib.Dec.{leb, eqb}
 use lib.Ieee.{size}
 use Rattle.digits.proofs.Tests.{clash}
 use Rattle.definitions.specs.Class.{Value, Class, unsupported, nan, infinite, finite}
-use Rattle.definitions.specs.Format.{Format, Representable, Holds, Regular, topField, fieldWeight, signWeight, patterns, classOf, withSign, patternOf, ordinary, houseNan, infinity, quiet, leading}
+use Rattle.definitions.specs.Format.{Format, Representable, NanStored, Holds, Regular, topField, fieldWeight, signWeight, patterns, classOf, withSign, patternOf, ordinary, houseNan, house, infinity, leading}
 use Rattle.laws.proofs.Representable.{held-placed, held-count, placed-held, magnitude-placed}
-use Rattle.laws.proofs.Layouts.{number, infinite-top}
-use Rattle.laws.proofs.Fields.{Fields, fields-read, fields-body, fields-field, fields-rest, fields-ordinary, fields-placed, placed-fields, finite-fields, infinity-rest, quiet-rest, infinity-read, quiet-read}
+use Rattle.laws.proofs.Layouts.{number, infinite-top, nan-top}
+use Rattle.laws.proofs.Fields.{Fields, fields-read, fields-body, fields-field, fields-rest, fields-ordinary, fields-placed, placed-fields, finite-fields, infinity-rest, infinity-read, nan-read, quiet-stored}
 use Rattle.laws.proofs.Pattern.{pack, pack-read, pack-ordinary, pack-small, packed, field-small, rest-small}
 
 pub same-count : (u v : Value) → finite u ≡ finite v → u .count ≡ v .count
@@ -58,13 +58,20 @@ module _ (f : Format) (r : Regular f) where
       (same-count (record { negative = n; count = c .significand * 2 ^ c .dropped }) v (sym (c .same ∙ fields-read f n (c .fields)) ∙ e))
       (placed-held f (c .dropped) (c .significand) (fields-placed f r (c .fields)))
 
+  pub read-stored : (b : ℕ) (n : Bool) (s : ℕ) → classOf f b ≡ nan n s → NanStored f s
+  unfolding classOf
+  read-stored b n s e =
+      let t = b % fieldWeight f in
+      let k = nan-top (f .layout) f (leb (signWeight f) b) n (b / fieldWeight f % (topField f + 1)) t s e in
+      subst (NanStored f) (k .1) (record { below = rest-small f b; leads = k .3; more = k .4 })
+
   -- so that the class of every pattern is one that the format holds
   pub read-holds : (b : ℕ) → Holds f (classOf f b)
   read-holds b = go (classOf f b) refl
     where
       go : (c : Class) → classOf f b ≡ c → Holds f c
       go unsupported e = tt
-      go nan e = tt
+      go (nan n s) e = read-stored b n s e
       go (infinite n) e = tt
       go (finite v) e = read-held b v e
 
@@ -90,7 +97,7 @@ module _ (f : Format) (r : Regular f) where
           go true a = let d = rw (eq-eqb e 0 z, a) at q in clash (cc)
           go false a = leb-false (leading f) t a
 
-  -- infinities, and the house NaN
+  -- infinities
   pub read-infinite : (n : Bool) → classOf f (patternOf f (infinite n)) ≡ infinite n
   unfolding patternOf
   read-infinite n = pack-read f (topField f) (infinity (f .layout) (leading f)) (omega arith) (infinity-rest f r) n ∙ infinity-read f n
@@ -114,14 +121,40 @@ module _ (f : Format) (r : Regular f) where
   unfolding patternOf
   infinite-small n = pack-small f (topField f) (infinity (f .layout) (leading f)) (omega arith) (infinity-rest f r) n
 
-  pub read-house-nan : classOf f (houseNan f) ≡ nan
-  read-house-nan =
-      (rw zero-add at (pack-read f (topField f) (quiet (f .layout) (leading f)) (omega arith) (quiet-rest f r) false)) ∙ quiet-read f r false
+  -- NaNs: each is read as it was written, and is written as it was read
+  pub read-nan : (n : Bool) (s : ℕ) → NanStored f s → classOf f (patternOf f (nan n s)) ≡ nan n s
+  unfolding patternOf
+  read-nan n s h = pack-read f (topField f) s (omega arith) (h .below) n ∙ nan-read f n s h
+
+  pub written-nan : (b : ℕ) (n : Bool) (s : ℕ) → b < patterns f → classOf f b ≡ nan n s → patternOf f (nan n s) ≡ b
+  unfolding patternOf
+  written-nan b n s h e =
+      let p = packed f b h in
+      let k = sym (pack-read f (p .field) (p .rest) (p .small) (p .below) (p .negative)) ∙ ap (classOf f) (p .is) ∙ e in
+      let i = nan-top (f .layout) f (p .negative) n (p .field) (p .rest) s k in
+      rw (i .0, i .1, i .2) at (p .is)
+
+  pub nan-ordinary : (n : Bool) (s : ℕ) → NanStored f s → ordinary f (patternOf f (nan n s)) ≡ true
+  unfolding patternOf
+  nan-ordinary n s h = pack-ordinary f (topField f) s (omega arith) (h .below) n ∙ top-ordinary s
+
+  pub nan-small : (n : Bool) (s : ℕ) → NanStored f s → patternOf f (nan n s) < patterns f
+  unfolding patternOf
+  nan-small n s h = pack-small f (topField f) s (omega arith) (h .below) n
+
+  -- the house NaN is one of them
+  pub house-holds : Holds f (house f)
+  house-holds = quiet-stored f r
+
+  pub house-is : patternOf f (house f) ≡ houseNan f
+  unfolding patternOf
+  house-is = zero-add (houseNan f)
+
+  pub read-house-nan : classOf f (houseNan f) ≡ house f
+  read-house-nan = ap (classOf f) (sym house-is) ∙ read-nan false _ house-holds
 
   pub house-nan-small : houseNan f < patterns f
-  house-nan-small = rw zero-add at (pack-small f (topField f) (quiet (f .layout) (leading f)) (omega arith) (quiet-rest f r) false)
+  house-nan-small = subst (λ (b : ℕ). b < patterns f) house-is (nan-small false _ house-holds)
 
   pub house-nan-ordinary : ordinary f (houseNan f) ≡ true
-  house-nan-ordinary =
-      let q = quiet (f .layout) (leading f) in
-      (rw zero-add at (pack-ordinary f (topField f) q (omega arith) (quiet-rest f r) false)) ∙ top-ordinary q
+  house-nan-ordinary = ap (ordinary f) (sym house-is) ∙ nan-ordinary false _ house-holds

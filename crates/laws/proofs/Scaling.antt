@@ -128,7 +128,7 @@ module _ (f : Format) (r : Regular f) (x : ℕ) where
     where
       go : (c : Class) → classOf f x ≡ c → Numeric c → scaleReport f x (pos 0) ≡ unchanged (ordinaryOf f x)
       go unsupported e n = absurd n
-      go nan e n = absurd n
+      go (nan m s) e n = absurd n
       go (infinite s) e n = rw e
       go (finite v) e n = some (v .count) refl
         where

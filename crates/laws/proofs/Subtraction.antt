@@ -19,12 +19,12 @@ use lib.Ieee.Scale.{round-same}
 use Rattle.digits.proofs.Tests.{clash}
 use Rattle.digits.proofs.Common.{sub-scale, ltb-scale}
 use Rattle.definitions.specs.Class.{Value, Class, unsupported, nan, infinite, finite}
-use Rattle.definitions.specs.Format.{binary32, binary64, reach, classOf}
+use Rattle.definitions.specs.Format.{binary32, binary64, reach, classOf, house}
 use Rattle.definitions.specs.Round.{round}
 use Rattle.definitions.specs.Difference.{exactDifference, roundedTo, limited, differenceValue, differenceClass, difference}
 use Rattle.laws.proofs.Range.{exponent-above}
 use Rattle.laws.proofs.Division.{rounds-up-once}
-use Rattle.laws.proofs.Difference.{difference-cases}
+use Rattle.laws.proofs.Difference.{difference-cases, difference-house}
 use Rattle.laws.proofs.Agrees.{ours, ours-regular, Stands, stands, writes}
 
 abbrev value : Bool → ℕ → Value
@@ -156,7 +156,7 @@ value-stands g x y (fin s m e) (fin t n d) p q =
     rw (r, p .0, q .0, ← exact-is (x .negative) (y .negative) (x .count) (y .count)) (round-stands g (z .negative) (z .count))
 
 infinities-stand : (g : Ieee.Format) (s t : Bool)
-    → Stands g (cond (Bool·beq s t) nan (infinite s)) (cond (Bool·beq s (not t)) (inf s) Ieee.nan)
+    → Stands g (cond (Bool·beq s t) (house (ours g)) (infinite s)) (cond (Bool·beq s (not t)) (inf s) Ieee.nan)
 infinities-stand g true true = refl
 infinities-stand g true false = refl
 infinities-stand g false true = refl
@@ -166,13 +166,13 @@ class-stands : (g : Ieee.Format) (X Y : Class) (v w : Float) → Stands g X v �
     → Stands g (differenceClass (ours g) X Y) (sub g v w)
 unfolding differenceClass sub
 class-stands g unsupported Y v w p q = absurd p
-class-stands g nan Y v w p q = rw p
+class-stands g (nan n k) Y v w p q = rw p
 class-stands g (infinite s) unsupported v w p q = absurd q
-class-stands g (infinite s) nan v w p q = rw (p, q)
+class-stands g (infinite s) (nan n k) v w p q = rw (p, q)
 class-stands g (infinite s) (infinite t) v w p q = rw (p, q) (infinities-stand g s t)
 class-stands g (infinite s) (finite y) v (fin t n d) p q = rw p
 class-stands g (finite x) unsupported v w p q = absurd q
-class-stands g (finite x) nan (fin s m e) w p q = rw q
+class-stands g (finite x) (nan n k) (fin s m e) w p q = rw q
 class-stands g (finite x) (infinite t) (fin s m e) w p q = rw q
 class-stands g (finite x) (finite y) v w p q = value-stands g x y v w p q
 
@@ -182,6 +182,7 @@ unfolding difference
 difference-ieee g x y =
     writes g (differenceClass (ours g) (classOf (ours g) x) (classOf (ours g) y)) (sub g (ofBits g x) (ofBits g y))
     (class-stands g (classOf (ours g) x) (classOf (ours g) y) (ofBits g x) (ofBits g y) (stands g x) (stands g y))
+    (difference-house (ours g) (classOf (ours g) x) (classOf (ours g) y))
 
 pub difference-ieee32 : (x y : ℕ)
     → difference binary32 x y ≡ toBits Ieee.binary32 (sub Ieee.binary32 (ofBits Ieee.binary32 x) (ofBits Ieee.binary32 y))
