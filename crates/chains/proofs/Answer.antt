@@ -8,6 +8,7 @@ use Rattle.digits.proofs.Tests.{clash, not-zero}
 use Rattle.definitions.specs.Class.{Value, finite}
 use Rattle.definitions.specs.Format.{Format, Representable, classOf, patternOf, ordinary, x87}
 use Rattle.definitions.specs.Numbers.{check, first, accepted, dividing}
+use Rattle.definitions.specs.Facts.{refusedValue}
 use Rattle.definitions.specs.declared.Kind.{Kind}
 use Rattle.definitions.specs.Division.{Outcome, by, finish, dividendOf, divisorOf}
 use Rattle.definitions.specs.Steps as Steps
@@ -45,7 +46,7 @@ cond-not true k = refl
 cond-not false k = refl
 
 pub answer-is : (κ : Kind) (c : Call) (x y : ℕ) (v w : Value) → classOf x87 x ≡ finite v → classOf x87 y ≡ finite w → 0 < w .count
-    → answer κ y c x ≡ reportOf (callNumber c (callOutcome κ (w .count) c v .done)) (callOutcome κ (w .count) c v)
+    → let n = callNumber c (callOutcome κ (w .count) c v .done) in answer κ y c x ≡ reportOf (refusedValue x87 n (finite v) (finite w)) n (callOutcome κ (w .count) c v)
 unfolding answer stepReport runReport
 answer-is κ (step l n) x y v w ex ey p =
     rw (ex, ey, run-one κ n (by (w .count)) v, number-finite l n v w 1 (not (Steps.step κ n (by (w .count)) v .done)) p, cond-not)
@@ -138,17 +139,17 @@ module _ (κ : Kind) (m : ℕ) (p : 0 < m) (hm : Representable x87 m) (c : Call)
   unfolding outcome
   reached = run-held x87 κ (sizeOf c) (budgetOf c) m (valueAt x) p hm (read-held x87 regular80 x (valueAt x) h)
 
-  report-tells : (n : ℕ) → sized (sizeOf c) ≡ true → n ≡ cond (outcome .done) 0 (openNumber c) → accepted n ≡ true
-      → Tells valueAt κ m c x (reportOf n outcome) × Returned (reportOf n outcome .value)
+  report-tells : (u n : ℕ) → sized (sizeOf c) ≡ true → n ≡ cond (outcome .done) 0 (openNumber c) → accepted n ≡ true
+      → Tells valueAt κ m c x (reportOf u n outcome) × Returned (reportOf u n outcome .value)
   unfolding outcome
-  report-tells n z e a =
+  report-tells u n z e a =
       rw a (record { size = z; number = e; reached = value-back (outcome .value) reached; quotient = refl; steps = refl }, value-returned (outcome .value) reached)
 
-  number-tells : (f s : Bool) → sized (sizeOf c) ≡ s → let n = cond f (cond s (cond (outcome .done) 0 (openNumber c)) 6) 9 in
-      accepted n ≡ true → Tells valueAt κ m c x (reportOf n outcome) × Returned (reportOf n outcome .value)
-  number-tells true true z a = report-tells (cond (outcome .done) 0 (openNumber c)) z refl a
-  number-tells true false z a = clash (cc)
-  number-tells false s z a = clash (cc)
+  number-tells : (u : ℕ) (f s : Bool) → sized (sizeOf c) ≡ s → let n = cond f (cond s (cond (outcome .done) 0 (openNumber c)) 6) 9 in
+      accepted n ≡ true → Tells valueAt κ m c x (reportOf u n outcome) × Returned (reportOf u n outcome .value)
+  number-tells u true true z a = report-tells u (cond (outcome .done) 0 (openNumber c)) z refl a
+  number-tells u true false z a = clash (cc)
+  number-tells u false s z a = clash (cc)
 
 module _ (κ : Kind) (y : ℕ) (w : Value) (ey : classOf x87 y ≡ finite w) (p : 0 < w .count) where
   told : (c : Call) (x : ℕ) → State x → accepted (answer κ y c x .number) ≡ true → Tells valueAt κ (w .count) c x (answer κ y c x) × Returned (answer κ y c x .value)
@@ -156,7 +157,7 @@ module _ (κ : Kind) (y : ℕ) (w : Value) (ey : classOf x87 y ≡ finite w) (p 
   told c x h =
       subst (λ (r : Report ℕ). accepted (r .number) ≡ true → Tells valueAt κ (w .count) c x r × Returned (r .value))
       (sym (answer-is κ c x y (valueAt x) w h ey p))
-      (number-tells κ (w .count) p (read-held x87 regular80 y w ey) c x h (fitting (lentOf c)) (sized (sizeOf c)) refl)
+      (number-tells κ (w .count) p (read-held x87 regular80 y w ey) c x h _ (fitting (lentOf c)) (sized (sizeOf c)) refl)
 
   pub answer-tells : Telling valueAt State κ (w .count) (answer κ y)
   answer-tells c x h a = let b = told c x h a in (b .0, b .1 .state)

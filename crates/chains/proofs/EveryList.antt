@@ -5,6 +5,7 @@ use mathlib.Core.List.{List}
 use Prim.Native.Nat.{ℕ, _<_}
 use Rattle.definitions.specs.Class.{Value, finite}
 use Rattle.definitions.specs.Format.{classOf, patternOf, x87}
+use Rattle.definitions.specs.Facts.{refusedValue}
 use Rattle.definitions.specs.declared.Kind.{Kind}
 use Rattle.definitions.specs.Division.{Outcome, by, finish, dividendOf}
 use Rattle.definitions.specs.Remainder.{quotientBits}
@@ -15,6 +16,7 @@ use Rattle.laws.proofs.Remainder.{remainder-is}
 use Rattle.chains.proofs.Outcome.{sound-finished, sound-bound, sound-ends}
 use Rattle.chains.proofs.Exact.{accounts-exact, accounts-whole}
 use Rattle.chains.proofs.Made.{listed-made, finished-last, any-accepted, none-accepted, finished-some, totals}
+use Rattle.chains.proofs.Denormal.{first-denormal, last-denormal}
 use Rattle.chains.proofs.Lists.{ListTells, list-last, list-each, list-tells}
 use Rattle.chains.proofs.Answer.{answer-is, State, Returned, read-state, answer-tells, answer-returned, answer-each}
 
@@ -30,7 +32,7 @@ run-is κ n b x y v w ex ey p z = answer-is κ (run nothing n b) x y v w ex ey p
     r : Outcome
     r = Steps.run κ n b (by (w .count)) v
 
-    go : (d : Bool) → reportOf (cond d 0 7) r ≡ record { number = cond d 0 7; value = patternOf x87 (finite (r .value)); quotient = quotientBits (r .whole); steps = r .steps }
+    go : (d : Bool) → reportOf (refusedValue x87 (cond d 0 7) (finite v) (finite w)) (cond d 0 7) r ≡ record { number = cond d 0 7; value = patternOf x87 (finite (r .value)); quotient = quotientBits (r .whole); steps = r .steps }
     go true = refl
     go false = refl
 
@@ -85,6 +87,7 @@ module _ (κ : Kind) (x y : ℕ) (w : Value) (cs : List Call) (ts : List (Made �
             ∙ (λ i. record { number = 0; value = last (some-accepted f) (finish κ (by m) (valueAt x) .value) (e .value) i; quotient = (ap quotientBits (sym (e .whole)) ∙ sym all-quotient) i });
         given = given;
         returned = λ e. returned (any-accepted ts e) .ordinary;
+        denormal = λ e. first-denormal (answer κ y) y listed e ∙ sym (last-denormal x y ts);
         exact = rw (told .reached) (accounts-exact (told .account));
         one = λ n rs s.
             run-is κ n (totalBudget (answers ts)) x y (valueAt x) w sx ey p (told .size n rs s) ∙ ap runTells (sym (told .one n rs))

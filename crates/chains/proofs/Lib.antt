@@ -4,6 +4,7 @@ pub mod Run
 pub mod Exact
 pub mod Spent
 pub mod Made
+pub mod Denormal
 pub mod Lists
 pub mod Answer
 pub mod EveryList

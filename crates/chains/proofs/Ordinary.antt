@@ -9,6 +9,7 @@ use Rattle.digits.proofs.Tests.{clash}
 use Rattle.definitions.specs.Class.{Value, Class, finite}
 use Rattle.definitions.specs.Format.{Format, Regular, classOf, patternOf, ordinary, ordinaryOf, x87}
 use Rattle.definitions.specs.Numbers.{first, accepted, dividing, isUnsupported, isNan, isZero}
+use Rattle.definitions.specs.Facts.{refusedValue}
 use Rattle.definitions.specs.declared.Kind.{Kind}
 use Rattle.definitions.specs.Remainder.{remainder}
 use Rattle.definitions.specs.Signed.{signedRemainder}
@@ -58,7 +59,7 @@ run-none l κ n x y v ex d fits size = rw (ex, fits, size) (go (isUnsupported Y)
     Y = classOf x87 y
 
     go : (u q z : Bool) → _≡_ {A = ℕ} (cond u 2 (cond q 3 (cond z 5 0))) 0
-        → reportOf (cond u 2 (cond q 3 (cond z 5 7))) (record { done = false; value = v; whole = 0; steps = 0 }) ≡ record { number = 7; value = patternOf x87 (finite v); quotient = 0; steps = 0 }
+        → let k = cond {A = ℕ} u 2 (cond q 3 (cond z 5 7)) in reportOf (refusedValue x87 k (finite v) Y) k (record { done = false; value = v; whole = 0; steps = 0 }) ≡ record { number = 7; value = patternOf x87 (finite v); quotient = 0; steps = 0 }
     go true q z e = clash (cc)
     go false true z e = clash (cc)
     go false false true e = clash (cc)

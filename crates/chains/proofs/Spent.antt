@@ -70,7 +70,7 @@ within κ n b (finite w) x i z =
     let s = not-false (sized n) i in
     record { steps = run-steps κ n b (w .count) x p s; done = run-done κ n b (w .count) x p s }
 within κ n b (infinite s) x i z = record { steps = unbounded-steps κ n b x; done = unbounded-done κ n b x }
-within κ n b nan x i z = record { steps = unbounded-steps κ n b x; done = unbounded-done κ n b x }
+within κ n b (nan t s) x i z = record { steps = unbounded-steps κ n b x; done = unbounded-done κ n b x }
 within κ n b unsupported x i z = record { steps = unbounded-steps κ n b x; done = unbounded-done κ n b x }
 
 module _ {i z : Bool} {number : ℕ → ℕ} (r : Outcome) (b k : ℕ) (w : i ≡ false → z ≡ false → Within b k r) where

@@ -25,28 +25,28 @@ module _ (s : ℤ) where
   pub unsupported-told : (a : Class) → unsupportedOperand (operandOf s a) ≡ isUnsupported a
   unfolding operandOf
   unsupported-told unsupported = refl
-  unsupported-told nan = refl
+  unsupported-told (nan n t) = refl
   unsupported-told (infinite n) = refl
   unsupported-told (finite v) = by-count s v (λ (o : Operand). unsupportedOperand o ≡ false) (λ z. refl) (λ h. refl)
 
   pub nan-told : (a : Class) → nanOperand (operandOf s a) ≡ isNan a
   unfolding operandOf
   nan-told unsupported = refl
-  nan-told nan = refl
+  nan-told (nan n t) = refl
   nan-told (infinite n) = refl
   nan-told (finite v) = by-count s v (λ (o : Operand). nanOperand o ≡ false) (λ z. refl) (λ h. refl)
 
   pub infinite-told : (a : Class) → infiniteOperand (operandOf s a) ≡ isInfinite a
   unfolding operandOf
   infinite-told unsupported = refl
-  infinite-told nan = refl
+  infinite-told (nan n t) = refl
   infinite-told (infinite n) = refl
   infinite-told (finite v) = by-count s v (λ (o : Operand). infiniteOperand o ≡ false) (λ z. refl) (λ h. refl)
 
   pub zero-told : (a : Class) → zeroOperand (operandOf s a) ≡ isZero a
   unfolding operandOf
   zero-told unsupported = refl
-  zero-told nan = refl
+  zero-told (nan n t) = refl
   zero-told (infinite n) = refl
   zero-told (finite v) = by-count s v (λ (o : Operand). zeroOperand o ≡ eqb (v .count) 0) (λ z. rw z) (λ h. rw (not-zero (v .count) h))
 
@@ -118,6 +118,6 @@ module _ (b : Class) where
     where
       go : (c : Class) → (isUnsupported c ≡ false) × (isUnsupported b ≡ false) → (isNan c ≡ false) × (isNan b ≡ false) → isInfinite c ≡ false → isZero b ≡ false → AcceptedPair c b
       go unsupported u n i z = clash (cc)
-      go nan u n i z = clash (cc)
+      go (nan t s) u n i z = clash (cc)
       go (infinite t) u n i z = clash (cc)
       go (finite v) u n i z = record { value = v; dividend = refl; supported = u .1; divisor = record { not-nan = n .1; not-zero = z } }

@@ -13,28 +13,28 @@ verdictNumber (Refused w) = refusalNumber w
 
 abbrev pub unsupportedOperand : Operand → Bool
 unsupportedOperand Unsupported = true
-unsupportedOperand Nan = false
+unsupportedOperand (Nan n s) = false
 unsupportedOperand (Infinite n) = false
 unsupportedOperand (Zero n) = false
 unsupportedOperand (Finite u) = false
 
 abbrev pub nanOperand : Operand → Bool
 nanOperand Unsupported = false
-nanOperand Nan = true
+nanOperand (Nan n s) = true
 nanOperand (Infinite n) = false
 nanOperand (Zero n) = false
 nanOperand (Finite u) = false
 
 abbrev pub infiniteOperand : Operand → Bool
 infiniteOperand Unsupported = false
-infiniteOperand Nan = false
+infiniteOperand (Nan n s) = false
 infiniteOperand (Infinite n) = true
 infiniteOperand (Zero n) = false
 infiniteOperand (Finite u) = false
 
 abbrev pub zeroOperand : Operand → Bool
 zeroOperand Unsupported = false
-zeroOperand Nan = false
+zeroOperand (Nan n s) = false
 zeroOperand (Infinite n) = false
 zeroOperand (Zero n) = true
 zeroOperand (Finite u) = false

@@ -50,7 +50,11 @@ fn is_unsupported(x: Operand) -> bool
 pub fn is_nan(x: Operand) -> bool
     ensures { λ r. ⌜ r ≡ nanOperand x ⌝ }
 {
-    if let Operand::Nan = x { true } else { false }
+    if let Operand::Nan { negative: _, stored: _ } = x {
+        true
+    } else {
+        false
+    }
 }
 
 pub fn is_infinite(x: Operand) -> bool

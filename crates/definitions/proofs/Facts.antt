@@ -1,6 +1,6 @@
 -- What is told of operands, said once more: which of two NaNs, and denormal patterns. Assumes nothing.
 use mathlib.Core.Path.{_≡_, refl}
-use mathlib.Core.Bool.{Bool, true, false, cond, _||_}
+use mathlib.Core.Bool.{Bool, true, false, not, cond, _&&_, _||_}
 use mathlib.Core.List.{List, [], _∷_, map}
 use Prim.Native.Nat.{ℕ, _<_, _≤_}
 use borrow.Author.Tests.{lt-ltb, le-ltb}
@@ -12,14 +12,15 @@ use Rattle.definitions.specs.Class.{Class, unsupported, nan, infinite, f
 use Rattle.definitions.specs.Format.{Format, binary16, binary32, binary64, x87, classOf, patternOf, magnitude}
 use Rattle.definitions.specs.Numbers.{first, dividing, isUnsupported, isNan, isInfinite, isZero}
 use Rattle.definitions.specs.Facts.{against, chosen, nanOf, denormal, toldDenormal}
-use Rattle.definitions.specs.Division.{finish}
+use Rattle.definitions.specs.Division.{finish, dividendOf, divisorOf}
 use Rattle.definitions.specs.Remainder.{remainder, remainderOf}
 use Rattle.definitions.specs.Signed.{signedRemainder, signedOf}
 use Rattle.definitions.specs.Steps.{step, run}
-use Rattle.definitions.specs.Reports.{nothing, stepReport, runReport}
+use Rattle.definitions.specs.Reports.{nothing, sized, stepReport, runReport}
 use Rattle.definitions.specs.Scale.{scaling, scaleReport, scaleOf, splitting, splitReport, splitOf}
 use Rattle.definitions.specs.declared.Kind.{Kind}
 use Rattle.definitions.specs.declared.Kind.the-variants.{Truncated, Nearest}
+use Rattle.definitions.proofs.Refusals.{call-numbers}
 
 -- ---- [2.11] of two operands
 
@@ -136,6 +137,31 @@ told-always f κ x y k =
     same : (b : Bool) → b || b ≡ b
     same true = refl
     same false = refl
+
+-- and a step and a run tell it exactly if their size is right
+sized-tells : (s : Bool) (k e : ℕ) → eqb k 6 ≡ false → eqb e 6 ≡ false → not (eqb (cond s (cond (eqb k 0) e k) 6) 6) ≡ s
+sized-tells false k e h g = refl
+sized-tells true k e h g = go (eqb k 0)
+  where
+    go : (z : Bool) → not (eqb (cond z e k) 6) ≡ true
+    go true = rw g
+    go false = rw h
+
+ends-not-six : (t : Bool) → (eqb (cond t 1 0) 6 ≡ false) × (eqb (cond t 7 0) 6 ≡ false)
+ends-not-six true = (refl, refl)
+ends-not-six false = (refl, refl)
+
+pub told-sized : (κ : Kind) (n b x y : ℕ)
+    → (toldDenormal x87 (stepReport nothing κ n x y .number) x y ≡ sized n && (denormal x87 x || denormal x87 y))
+    × (toldDenormal x87 (runReport nothing κ n b x y .number) x y ≡ sized n && (denormal x87 x || denormal x87 y))
+told-sized κ n b x y =
+    let X = classOf x87 x in
+    let Y = classOf x87 y in
+    let c = call-numbers nothing κ n b x y in
+    let d = dividing-not-six X Y in
+    let s = not (step κ n (divisorOf Y) (dividendOf X) .done) in
+    let r = not (run κ n b (divisorOf Y) (dividendOf X) .done) in
+    (rw (c .0, sized-tells (sized n) (first (dividing X Y)) (cond s 1 0) d (ends-not-six s .0)), rw (c .1, sized-tells (sized n) (first (dividing X Y)) (cond r 7 0) d (ends-not-six r .1)))
 
 -- [7.7] a pseudo-denormal by 1 with a size that is refused, one step of it, and a budget of 0; and what that returns, which is no denormal
 pub told-calls : (toldDenormal x87 (stepReport nothing Truncated 31 0x00008000000000000001 0x3FFF8000000000000000 .number) 0x00008000000000000001 0x3FFF8000000000000000 ≡ false)

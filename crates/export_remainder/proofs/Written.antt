@@ -15,11 +15,11 @@ use Rattle.interface.proofs.Written.{kept, significand-of, word-of}
 use Rattle.laws.proofs.Small.{remainder-small}
 
 -- a remainder that the library told as a
-module _ (f : Format) (r : Regular f) (κ : Kind) (x y : ℕ) (a : RemainderAnswer) (told : remainderMeaning f a ≡ remainder f κ x y) where
+module _ (f : Format) (r : Regular f) (κ : Kind) (x y : ℕ) (a : RemainderAnswer) (told : remainderMeaning a ≡ remainder f κ x y) where
   module _ (v : Pattern) (q : ℕ) (e : a ≡ Finished v q) where
     meant : remainder f κ x y ≡ record { number = 0; value = joined v; quotient = q }
     unfolding remainderMeaning
-    meant = sym told ∙ ap (remainderMeaning f) e
+    meant = sym told ∙ ap remainderMeaning e
 
     pub value-fits : joined v < patterns f
     value-fits = let s = remainder-small f r κ x y in rw meant at s
@@ -36,7 +36,7 @@ module _ (f : Format) (r : Regular f) (κ : Kind) (x y : ℕ) (a : RemainderAnsw
   module _ (w : Refusal) (n : ℕ) (e : a ≡ Refused w) (is : n ≡ refusalNumber w) where
     number-is : n ≡ remainder f κ x y .number
     unfolding remainderMeaning
-    number-is = is ∙ ap (λ (t : Remainder). t .number) (ap (remainderMeaning f) (sym e) ∙ told)
+    number-is = is ∙ ap (λ (t : Remainder). t .number) (ap remainderMeaning (sym e) ∙ told)
 
     pub refused : (value quotient : ℕ)
         → (n ≡ remainder f κ x y .number) × ((value ≡ after n (remainder f κ x y .value) value) × (quotient ≡ after n (remainder f κ x y .quotient) quotient))

@@ -18,11 +18,11 @@ use Rattle.laws.proofs.Small.{remainder-small}
 use Rattle.laws.proofs.Signed.{signed-remainder}
 
 -- a remainder that the library told as a
-module _ (f : Format) (r : Regular f) (κ : Kind) (x y : ℕ) (a : SignedAnswer) (told : signedMeaning f a ≡ signedRemainder f κ x y) where
+module _ (f : Format) (r : Regular f) (κ : Kind) (x y : ℕ) (a : SignedAnswer) (told : signedMeaning a ≡ signedRemainder f κ x y) where
   module _ (v : Pattern) (q : ℤ) (e : a ≡ Finished v q) where
     meant : signedRemainder f κ x y ≡ record { number = 0; value = joined v; quotient = q }
     unfolding signedMeaning
-    meant = sym told ∙ ap (signedMeaning f) e
+    meant = sym told ∙ ap signedMeaning e
 
     pub value-fits : joined v < patterns f
     value-fits = rw (ap (λ (g : SignedRemainder). g .value) (sym meant) ∙ signed-remainder f κ x y .1) (remainder-small f r κ x y)
@@ -41,7 +41,7 @@ module _ (f : Format) (r : Regular f) (κ : Kind) (x y : ℕ) (a : SignedAnswer)
   module _ (w : Refusal) (n : ℕ) (e : a ≡ Refused w) (is : n ≡ refusalNumber w) where
     number-is : n ≡ signedRemainder f κ x y .number
     unfolding signedMeaning
-    number-is = is ∙ ap (λ (t : SignedRemainder). t .number) (ap (signedMeaning f) (sym e) ∙ told)
+    number-is = is ∙ ap (λ (t : SignedRemainder). t .number) (ap signedMeaning (sym e) ∙ told)
 
     pub refused : (value : ℕ) (quotient : ℤ)
         → (n ≡ signedRemainder f κ x y .number)

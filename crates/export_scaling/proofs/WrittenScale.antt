@@ -16,14 +16,14 @@ use Rattle.laws.proofs.Small.{scale-small}
 use Rattle.interface.proofs.Written.{kept, significand-of, word-of}
 
 -- the report of x scaled by 2 ^ k, which the library told as a
-module _ (f : Format) (r : Regular f) (x : ℕ) (k : ℤ) (a : ScaleAnswer) (told : scaleMeaning f a ≡ scaleReport f x k) where
+module _ (f : Format) (r : Regular f) (x : ℕ) (k : ℤ) (a : ScaleAnswer) (told : scaleMeaning a ≡ scaleReport f x k) where
   abbrev R : ScaleReport
   R = scaleReport f x k
 
   module _ (v : Pattern) (s : Rounding) (is : a ≡ scale.Scaled v s) where
     report : record { number = 0; value = joined v; says = s } ≡ R
     unfolding scaleMeaning
-    report = ap (scaleMeaning f) (sym is) ∙ told
+    report = ap scaleMeaning (sym is) ∙ told
 
     pub value-small : joined v < patterns f
     value-small = rw (ap (λ (t : ScaleReport). t .value) report) (scale-small f r x k)
@@ -39,7 +39,7 @@ module _ (f : Format) (r : Regular f) (x : ℕ) (k : ℤ) (a : ScaleAnswer) (tol
   module _ (w : Refusal) (n : ℕ) (is : a ≡ scale.Refused w) (i : n ≡ refusalNumber w) where
     number-is : n ≡ R .number
     unfolding scaleMeaning
-    number-is = i ∙ ap (λ (t : ScaleReport). t .number) (ap (scaleMeaning f) (sym is) ∙ told)
+    number-is = i ∙ ap (λ (t : ScaleReport). t .number) (ap scaleMeaning (sym is) ∙ told)
 
     pub refused : (value says : ℕ) → (n ≡ R .number) × ((value ≡ after n (R .value) value) × (says ≡ after n (saysNumber (R .says)) says))
     refused value says = (number-is, (kept w n (R .value) value i, kept w n (saysNumber (R .says)) says i))

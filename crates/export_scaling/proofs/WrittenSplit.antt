@@ -15,14 +15,14 @@ use Rattle.laws.proofs.Small.{split-small}
 use Rattle.interface.proofs.Written.{kept, significand-of, word-of}
 
 -- the report of x split, which the library told as a
-module _ (f : Format) (r : Regular f) (x : ℕ) (a : SplitAnswer) (told : splitMeaning f a ≡ splitReport f x) where
+module _ (f : Format) (r : Regular f) (x : ℕ) (a : SplitAnswer) (told : splitMeaning a ≡ splitReport f x) where
   abbrev R : SplitReport
   R = splitReport f x
 
   module _ (s : Pattern) (e : ℤ) (is : a ≡ split.Parts s e) where
     report : record { number = 0; significand = joined s; exponent = e } ≡ R
     unfolding splitMeaning
-    report = ap (splitMeaning f) (sym is) ∙ told
+    report = ap splitMeaning (sym is) ∙ told
 
     pub significand-small : joined s < patterns f
     significand-small = rw (ap (λ (t : SplitReport). t .significand) report) (split-small f r x)
@@ -38,7 +38,7 @@ module _ (f : Format) (r : Regular f) (x : ℕ) (a : SplitAnswer) (told : splitM
   module _ (w : Refusal) (n : ℕ) (is : a ≡ split.Refused w) (i : n ≡ refusalNumber w) where
     number-is : n ≡ R .number
     unfolding splitMeaning
-    number-is = i ∙ ap (λ (t : SplitReport). t .number) (ap (splitMeaning f) (sym is) ∙ told)
+    number-is = i ∙ ap (λ (t : SplitReport). t .number) (ap splitMeaning (sym is) ∙ told)
 
     pub refused : (significand : ℕ) (exponent : ℤ)
         → (n ≡ R .number) × ((significand ≡ after n (R .significand) significand) × (exponent ≡ after n (R .exponent) exponent))

@@ -21,7 +21,7 @@ use Rattle.laws.proofs.Representable.{leading-twice}
 use Rattle.laws.proofs.RoundTrip.{read-nan, written-nan, read-stored, read-house-nan}
 use Rattle.laws.proofs.Pattern.{as-digits}
 
-even-digit : (q : ℕ) → eqb (q % 2) 1 ≡ false → q % 2 ≡ 0
+pub even-digit : (q : ℕ) → eqb (q % 2) 1 ≡ false → q % 2 ≡ 0
 even-digit q e = let h = eqb-false (q % 2) 1 e in omega arith
 
 -- what lies above one digit more
@@ -53,7 +53,7 @@ module _ (f : Format) (r : Regular f) where
     room-in : (c : ℕ) → (s / quietWeight f < c → s / quietWeight f + 1 < c) → s < c * quietWeight f → s + quietWeight f < c * quietWeight f
     room-in c up below = div-lt-iff-lt-mul quiet-pos .0 (rw one-more (up (div-lt-iff-lt-mul quiet-pos .1 below)))
 
-    room : s < fieldWeight f → s / quietWeight f % 2 ≡ 0 → s + quietWeight f < fieldWeight f
+    pub room : s < fieldWeight f → s / quietWeight f % 2 ≡ 0 → s + quietWeight f < fieldWeight f
     room below even = go (stored-halves (f .layout))
       where
         go : (fieldWeight f ≡ 2 * quietWeight f) ⊎ (fieldWeight f ≡ 4 * quietWeight f) → s + quietWeight f < fieldWeight f

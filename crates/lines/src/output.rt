@@ -46,8 +46,8 @@ fn digits_line(value: u64, quotient_digit: u8, number_digit: u8) -> Output
 
 // The line of an answer. Only `answer_line` calls it, with an answer of `remainder64`: its number has one digit.
 pub fn line_of_answer(answer: RemainderAnswer) -> Output
-    requires { ⌜ (remainderMeaning binary64 answer .value < 2 ^ 64) × (remainderMeaning binary64 answer .number ≤ 9) ⌝ }
-    ensures { λ r. ⌜ r ≡ outputOf (answerLine (remainderMeaning binary64 answer)) ⌝ }
+    requires { ⌜ (remainderMeaning answer .value < 2 ^ 64) × (remainderMeaning answer .number ≤ 9) ⌝ }
+    ensures { λ r. ⌜ r ≡ outputOf (answerLine (remainderMeaning answer)) ⌝ }
 {
     match answer {
         RemainderAnswer::Finished { value, quotient } => {

@@ -25,7 +25,7 @@ unpackedOf s v = record { negative = v .negative; significand = v .count * 2 ^ 6
 unfoldable pub operandOf : ℤ → Class → Operand
 unfolding unpackedOf
 operandOf s unsupported = Unsupported
-operandOf s nan = Nan
+operandOf s (nan n t) = Nan n t
 operandOf s (infinite n) = Infinite n
 operandOf s (finite v) = cond (eqb (v .count) 0) (Zero (v .negative)) (Finite (unpackedOf s v))
 
@@ -40,7 +40,7 @@ countIn s a e = a * 2 ^ placeIn s e / 2 ^ 63
 -- the class of an operand
 unfoldable pub classIn : ℤ → Operand → Class
 classIn s Unsupported = unsupported
-classIn s Nan = nan
+classIn s (Nan n t) = nan n t
 classIn s (Infinite n) = infinite n
 classIn s (Zero n) = finite (record { negative = n; count = 0 })
 classIn s (Finite u) = finite (record { negative = u .negative; count = countIn s (u .significand) (u .exponent) })
@@ -53,7 +53,7 @@ normalOf n a e =
 -- what an operand divides by, as the code holds it
 abbrev pub divisorOperand : Operand → Divisor
 divisorOperand Unsupported = Unbounded
-divisorOperand Nan = Unbounded
+divisorOperand (Nan n t) = Unbounded
 divisorOperand (Infinite n) = Unbounded
 divisorOperand (Zero n) = Unbounded
 divisorOperand (Finite u) = By u

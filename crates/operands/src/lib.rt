@@ -15,7 +15,8 @@ pub struct Unpacked {
 
 pub enum Operand {
     Unsupported,
-    Nan,
+    // Its sign and its significand, as they are stored.
+    Nan { negative: bool, stored: u64 },
     Infinite(bool),
     Zero(bool),
     Finite(Unpacked),

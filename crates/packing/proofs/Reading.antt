@@ -69,7 +69,7 @@ module _ (f : Format) (ok : Sound f) (b : ℕ) (r : Fields) (is : r ≡ fieldsIn
               eq-eqb (r .stored) (infinity (f .layout) (leading f)) (omega (arith, hidden-infinity (f .layout) (leading f))),
             )
 
-        pub nan-top : (s ≡ leading f → ⊥) → Nan ≡ operandOf (f .smallest) (classOf f b)
+        pub nan-top : (s ≡ leading f → ⊥) → Nan (r .negative) (r .stored) ≡ operandOf (f .smallest) (classOf f b)
         unfolding operandOf
         nan-top h =
             rw (

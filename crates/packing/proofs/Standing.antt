@@ -26,7 +26,8 @@ use Rattle.operands.specs.Operand.{operandOf, unpackedOf, classIn, valueIn, val
 use Rattle.operands.proofs.Lead.{class-back, by-count, some-operand, lead, lead-top, lead-word}
 use Rattle.laws.proofs.Division.{finish-held}
 use Rattle.laws.proofs.RoundTrip.{read-holds}
-use Rattle.shapes.specs.Shape.{Sound}
+use Rattle.shapes.specs.declared.shape.Shape.{Shape}
+use Rattle.shapes.specs.Shape.{formatOf, shapeOf, Sound}
 use Rattle.packing.specs.Stands.{Stands, StandsValue, StandsDivisor}
 
 -- the smallest place of a regular format is as far below one as its bias and its precision say
@@ -49,7 +50,7 @@ module _ (f : Format) (ok : Sound f) where
   pub class-of : (c : Class) → Holds f c → classIn (f .smallest) (operandOf (f .smallest) c) ≡ c
   unfolding classIn operandOf
   class-of unsupported h = refl
-  class-of nan h = refl
+  class-of (nan n s) h = refl
   class-of (infinite n) h = refl
   class-of (finite v) h = class-back (f .smallest) v (held-digits (v .count) h)
 
@@ -92,7 +93,7 @@ module _ (f : Format) (ok : Sound f) where
   -- what an operand divides by, as the code holds it; a zero is refused before
   pub divisor-stands : (y : Operand) → Stands f y → StandsDivisor f (divisorOperand y)
   divisor-stands Unsupported s = tt
-  divisor-stands Nan s = tt
+  divisor-stands (Nan n t) s = tt
   divisor-stands (Infinite n) s = tt
   divisor-stands (Zero n) s = tt
   divisor-stands (Finite u) s = stands-unpacked u s
@@ -100,7 +101,7 @@ module _ (f : Format) (ok : Sound f) where
   pub divisor-is : (y : Operand) → isZero (classIn (f .smallest) y) ≡ false → divisorIn (f .smallest) (divisorOperand y) ≡ divisorOf (classIn (f .smallest) y)
   unfolding classIn
   divisor-is Unsupported z = refl
-  divisor-is Nan z = refl
+  divisor-is (Nan n t) z = refl
   divisor-is (Infinite n) z = refl
   divisor-is (Zero n) z = clash (cc)
   divisor-is (Finite u) z = refl
@@ -138,3 +139,9 @@ module _ (f : Format) (ok : Sound f) where
   unfolding finish classIn
   finish-stands κ Unbounded v sy h = h
   finish-stands κ (By u) v sy h = finish-held f κ (valueIn (f .smallest) u .count) v (unpacks u sy .some) (sy .held) h
+
+-- the operands of two patterns, by the shape of their format
+module _ (f : Format) (ok : Sound f) (h : Shape) (of : h ≡ shapeOf f) (x y : ℕ) (o p : Operand)
+    (ox : o ≡ operandOf (f .smallest) (classOf f x)) (py : p ≡ operandOf (f .smallest) (classOf f y)) where
+  pub patterns-stand : Sound (formatOf h) × Stands (formatOf h) o × Stands (formatOf h) p
+  patterns-stand = rw of (ok, stands-pattern f ok x o ox, stands-pattern f ok y p py)

@@ -71,7 +71,7 @@ fn infinity_stored(shape: Shape) -> u64
     leading_weight(shape) - hidden_part(shape)
 }
 
-fn house_nan(shape: Shape) -> Pattern
+pub fn house_nan(shape: Shape) -> Pattern
     requires { ⌜ Sound (formatOf shape) ⌝ }
     ensures { λ r. ⌜ joined r ≡ houseNan (formatOf shape) ⌝ }
 {
@@ -90,7 +90,14 @@ pub fn pack(shape: Shape, operand: Operand) -> Pattern
 {
     match operand {
         Operand::Unsupported => house_nan(shape),
-        Operand::Nan => house_nan(shape),
+        Operand::Nan { negative, stored } => {
+            let fields = Fields {
+                negative,
+                field: top_field(shape),
+                stored,
+            };
+            pattern_of(shape, fields)
+        }
         Operand::Infinite(negative) => {
             let fields = Fields {
                 negative,

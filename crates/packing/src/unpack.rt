@@ -35,7 +35,10 @@ pub fn unpack(shape: Shape, pattern: Pattern) -> Operand
         if significand == leading {
             return Operand::Infinite(negative);
         }
-        return Operand::Nan;
+        return Operand::Nan {
+            negative,
+            stored: fields.stored,
+        };
     }
     normalise(
         negative,

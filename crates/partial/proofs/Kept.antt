@@ -49,4 +49,4 @@ module _ (κ : Kind) (k : ℕ) where
   unfolding classIn operandOf
   step-other d s =
       other-cases (λ (o : Operand). StandsValue x87 o → keptOf o ≡ steppedOf (step κ k (divisorIn (x87 .smallest) d) (valueOperand (x87 .smallest) o)))
-      (λ v. let e = v .is in clash (cc)) (λ v. let e = v .is in clash (cc)) (λ n v. let e = v .is in clash (cc)) (λ n v. zero-step n d s)
+      (λ v. let e = v .is in clash (cc)) (λ n t v. let e = v .is in clash (cc)) (λ n v. let e = v .is in clash (cc)) (λ n v. zero-step n d s)

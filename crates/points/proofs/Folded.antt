@@ -62,7 +62,7 @@ only-bad (finite v) b p s = rw (positive-tests b p .0, positive-tests b p .1, po
 
 -- the remainder of x by a period above zero, from what the library told
 module _ (p x : ℕ) (above : isPositive (classOf binary64 p) ≡ true) (a : RemainderAnswer)
-    (told : remainderMeaning binary64 a ≡ remainder binary64 Truncated x p) where
+    (told : remainderMeaning a ≡ remainder binary64 Truncated x p) where
   abbrev left : ℕ
   left = cond (bad x) (houseNan binary64) (remainder binary64 Truncated x p .value)
 
@@ -73,7 +73,7 @@ module _ (p x : ℕ) (above : isPositive (classOf binary64 p) ≡ true) (a : Rem
   pub finished : (v : Pattern) (q : ℕ) → a ≡ Finished v q → v .low ≡ left
   unfolding remainderMeaning
   finished v q e =
-      let is : remainder binary64 Truncated x p ≡ record { number = 0; value = joined v; quotient = q } = sym told ∙ ap (remainderMeaning binary64) e in
+      let is : remainder binary64 Truncated x p ≡ record { number = 0; value = joined v; quotient = q } = sym told ∙ ap remainderMeaning e in
       let small = remainder-small binary64 regular64 Truncated x p in
       let fits : joined v < 2 ^ 64 = rw is at small in
       let z : not (bad x) ≡ true = sym number-tells ∙ ap (λ (r : Remainder). eqb (r .number) 0) is in
@@ -82,7 +82,7 @@ module _ (p x : ℕ) (above : isPositive (classOf binary64 p) ≡ true) (a : Rem
   pub refused : (w : Refusal) → a ≡ Refused w → houseNan binary64 ≡ left
   unfolding remainderMeaning
   refused w e =
-      let is = ap (λ (r : Remainder). r .number) (sym told ∙ ap (remainderMeaning binary64) e) in
+      let is = ap (λ (r : Remainder). r .number) (sym told ∙ ap remainderMeaning e) in
       let z : not (bad x) ≡ false = sym number-tells ∙ ap (λ (n : ℕ). eqb n 0) is ∙ refusal-some w in
       rw (not-false (bad x) z)
 

@@ -47,7 +47,7 @@ module _ (f : Format) (ok : Sound f) (κ : Kind) where
     unfolding finish classIn
     zero-kept k Unbounded sy = by-unbounded
     zero-kept k (By b) sy =
-        let z : valueOperand (f .smallest) x .count ≡ 0 = other-cases (λ (o : Operand). valueOperand (f .smallest) o .count ≡ 0) refl refl (λ n. refl) (λ n. refl) x k in
+        let z : valueOperand (f .smallest) x .count ≡ 0 = other-cases (λ (o : Operand). valueOperand (f .smallest) o .count ≡ 0) refl (λ n s. refl) (λ n. refl) (λ n. refl) x k in
         kept _ (finish-far κ (valueIn (f .smallest) b .count) (valueOperand (f .smallest) x) (unpacks f ok b sy .some) (omega arith))
 
   -- two numbers that are not zero, and what the code has left of them

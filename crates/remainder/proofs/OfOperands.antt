@@ -3,6 +3,7 @@ use mathlib.Core.Path.{_≡_}
 use Prim.Native.Nat.{ℕ}
 use Rattle.definitions.specs.Format.{Format}
 use Rattle.definitions.specs.Numbers.{first, dividing}
+use Rattle.definitions.specs.Facts.{refusedValue}
 use Rattle.definitions.specs.Division.{finish}
 use Rattle.definitions.specs.Remainder.{remainderOf}
 use Rattle.definitions.specs.Answers.{remainderMeaning, refusalNumber, joined}
@@ -21,10 +22,11 @@ use Rattle.remainder.proofs.ByDivisor.{Writes}
 
 module _ (f : Format) (ok : Sound f) where
   module _ (x y : Operand) (κ : Kind) where
-    pub refused : (w : Refusal) → first (dividing (classIn (f .smallest) x) (classIn (f .smallest) y)) ≡ refusalNumber w
-        → remainderMeaning f (Refused w) ≡ remainderOf f κ (classIn (f .smallest) x) (classIn (f .smallest) y)
+    pub refused : (w : Refusal) (v : Pattern) → first (dividing (classIn (f .smallest) x) (classIn (f .smallest) y)) ≡ refusalNumber w
+        → joined v ≡ refusedValue f (refusalNumber w) (classIn (f .smallest) x) (classIn (f .smallest) y)
+        → remainderMeaning (Refused w v) ≡ remainderOf f κ (classIn (f .smallest) x) (classIn (f .smallest) y)
     unfolding remainderMeaning remainderOf
-    refused w e = rw (e, refusal-refuses w)
+    refused w v e i = rw (e, refusal-refuses w, ← i)
 
     module _ (none : first (dividing (classIn (f .smallest) x) (classIn (f .smallest) y)) ≡ 0) where
       pair : AcceptedPair (classIn (f .smallest) x) (classIn (f .smallest) y)
@@ -34,6 +36,6 @@ module _ (f : Format) (ok : Sound f) where
       dividend-stands s = stands-finite f ok (pair .value) x s (pair .dividend)
 
       pub answered : (p : Pattern) (q : ℕ) → Writes f (joined p) q (finish κ (divisorIn (f .smallest) (divisorOperand y)) (valueOperand (f .smallest) x))
-          → remainderMeaning f (Finished p q) ≡ remainderOf f κ (classIn (f .smallest) x) (classIn (f .smallest) y)
+          → remainderMeaning (Finished p q) ≡ remainderOf f κ (classIn (f .smallest) x) (classIn (f .smallest) y)
       unfolding remainderMeaning remainderOf
       answered p q w = rw (none, ← divisor-is f ok y (pair .divisor .not-zero)) (λ i. record { number = 0; value = w .0 i; quotient = w .1 i })

@@ -5,6 +5,7 @@ use checks::pair::judge_pair;
 use definitions::Kind;
 use definitions::Pattern;
 use definitions::RemainderAnswer;
+use facts::nan::refused_value;
 use operands::Divisor;
 use operands::Operand;
 use operands::divisor_of;
@@ -59,10 +60,13 @@ pub fn divide_by(shape: Shape, x: Operand, y: Divisor, kind: Kind) -> Residue
 // Any two operands.
 pub fn remainder_of(shape: Shape, x: Operand, y: Operand, kind: Kind) -> RemainderAnswer
     requires { ⌜ Sound (formatOf shape) × Stands (formatOf shape) x × Stands (formatOf shape) y ⌝ }
-    ensures { λ r. ⌜ remainderMeaning (formatOf shape) r ≡ remainderOf (formatOf shape) kind (classIn (shape .smallest) x) (classIn (shape .smallest) y) ⌝ }
+    ensures { λ r. ⌜ remainderMeaning r ≡ remainderOf (formatOf shape) kind (classIn (shape .smallest) x) (classIn (shape .smallest) y) ⌝ }
 {
     match judge_pair(x, y) {
-        Verdict::Refused(why) => RemainderAnswer::Refused(why),
+        Verdict::Refused(why) => RemainderAnswer::Refused {
+            why,
+            value: refused_value(shape, why, x, y),
+        },
         Verdict::Accepted => {
             let divided = divide_by(shape, x, divisor_of(y), kind);
             let value = divided.value;

@@ -1,45 +1,66 @@
 // The remainder of two patterns, of every bit pattern: take apart, divide, put together.
 use crate::divided::remainder_of;
 use definitions::Kind;
-use definitions::RemainderAnswer;
+use definitions::RemainderTold;
+use facts::patterns::any_denormal16;
+use facts::patterns::any_denormal32;
+use facts::patterns::any_denormal64;
+use facts::patterns::any_denormal80;
 use formats::binary::Binary16;
 use formats::binary::Binary32;
 use formats::binary::Binary64;
 use formats::x87::X87;
 ghost use mathlib.Core.Path.{_≡_};
 ghost use Rattle.definitions.specs.Format.{binary16, binary32, binary64, x87, words};
+ghost use Rattle.definitions.specs.Facts.{toldDenormal};
 ghost use Rattle.definitions.specs.Remainder.{remainder};
 ghost use Rattle.definitions.specs.Answers.{remainderMeaning};
 
-pub fn remainder16(x: u16, y: u16, kind: Kind) -> RemainderAnswer
-    ensures { λ r. ⌜ remainderMeaning binary16 r ≡ remainder binary16 kind x y ⌝ }
+pub fn remainder16(x: u16, y: u16, kind: Kind) -> RemainderTold
+    ensures answer { λ r. ⌜ remainderMeaning (r .answer) ≡ remainder binary16 kind x y ⌝ }
+    ensures denormal { λ r. ⌜ r .denormal ≡ toldDenormal binary16 (remainder binary16 kind x y .number) x y ⌝ }
 {
     let dividend = Binary16::of_pattern(x).operand;
     let divisor = Binary16::of_pattern(y).operand;
-    remainder_of(Binary16::shape(), dividend, divisor, kind)
+    RemainderTold {
+        answer: remainder_of(Binary16::shape(), dividend, divisor, kind),
+        denormal: any_denormal16(x, y),
+    }
 }
 
-pub fn remainder32(x: u32, y: u32, kind: Kind) -> RemainderAnswer
-    ensures { λ r. ⌜ remainderMeaning binary32 r ≡ remainder binary32 kind x y ⌝ }
+pub fn remainder32(x: u32, y: u32, kind: Kind) -> RemainderTold
+    ensures answer { λ r. ⌜ remainderMeaning (r .answer) ≡ remainder binary32 kind x y ⌝ }
+    ensures denormal { λ r. ⌜ r .denormal ≡ toldDenormal binary32 (remainder binary32 kind x y .number) x y ⌝ }
 {
     let dividend = Binary32::of_pattern(x).operand;
     let divisor = Binary32::of_pattern(y).operand;
-    remainder_of(Binary32::shape(), dividend, divisor, kind)
+    RemainderTold {
+        answer: remainder_of(Binary32::shape(), dividend, divisor, kind),
+        denormal: any_denormal32(x, y),
+    }
 }
 
-pub fn remainder64(x: u64, y: u64, kind: Kind) -> RemainderAnswer
-    ensures { λ r. ⌜ remainderMeaning binary64 r ≡ remainder binary64 kind x y ⌝ }
+pub fn remainder64(x: u64, y: u64, kind: Kind) -> RemainderTold
+    ensures answer { λ r. ⌜ remainderMeaning (r .answer) ≡ remainder binary64 kind x y ⌝ }
+    ensures denormal { λ r. ⌜ r .denormal ≡ toldDenormal binary64 (remainder binary64 kind x y .number) x y ⌝ }
 {
     let dividend = Binary64::of_pattern(x).operand;
     let divisor = Binary64::of_pattern(y).operand;
-    remainder_of(Binary64::shape(), dividend, divisor, kind)
+    RemainderTold {
+        answer: remainder_of(Binary64::shape(), dividend, divisor, kind),
+        denormal: any_denormal64(x, y),
+    }
 }
 
 // An x87 operand is a significand and a sign and exponent word.
-pub fn remainder80(x: u64, xw: u16, y: u64, yw: u16, kind: Kind) -> RemainderAnswer
-    ensures { λ r. ⌜ remainderMeaning x87 r ≡ remainder x87 kind (words xw x) (words yw y) ⌝ }
+pub fn remainder80(x: u64, xw: u16, y: u64, yw: u16, kind: Kind) -> RemainderTold
+    ensures answer { λ r. ⌜ remainderMeaning (r .answer) ≡ remainder x87 kind (words xw x) (words yw y) ⌝ }
+    ensures denormal { λ r. ⌜ r .denormal ≡ toldDenormal x87 (remainder x87 kind (words xw x) (words yw y) .number) (words xw x) (words yw y) ⌝ }
 {
     let dividend = X87::of_pattern(x, xw).operand;
     let divisor = X87::of_pattern(y, yw).operand;
-    remainder_of(X87::shape(), dividend, divisor, kind)
+    RemainderTold {
+        answer: remainder_of(X87::shape(), dividend, divisor, kind),
+        denormal: any_denormal80(x, xw, y, yw),
+    }
 }

@@ -20,7 +20,10 @@ fn is_negative(x: Operand) -> bool
 {
     match x {
         Operand::Unsupported => false,
-        Operand::Nan => false,
+        Operand::Nan {
+            negative: _,
+            stored: _,
+        } => false,
         Operand::Infinite(negative) => negative,
         Operand::Zero(negative) => negative,
         Operand::Finite(value) => value.negative,
@@ -29,7 +32,7 @@ fn is_negative(x: Operand) -> bool
 
 pub fn signed_of(shape: Shape, x: Operand, y: Operand, kind: Kind) -> SignedAnswer
     requires { ⌜ Sound (formatOf shape) × Stands (formatOf shape) x × Stands (formatOf shape) y ⌝ }
-    ensures { λ r. ⌜ signedMeaning (formatOf shape) r ≡ signedOf (formatOf shape) kind (classIn (shape .smallest) x) (classIn (shape .smallest) y) ⌝ }
+    ensures { λ r. ⌜ signedMeaning r ≡ signedOf (formatOf shape) kind (classIn (shape .smallest) x) (classIn (shape .smallest) y) ⌝ }
 {
     match remainder_of(shape, x, y, kind) {
         RemainderAnswer::Finished { value, quotient } => {
@@ -39,6 +42,6 @@ pub fn signed_of(shape: Shape, x: Operand, y: Operand, kind: Kind) -> SignedAnsw
                 quotient: with_sign(negative, quotient),
             }
         }
-        RemainderAnswer::Refused(why) => SignedAnswer::Refused(why),
+        RemainderAnswer::Refused { why, value } => SignedAnswer::Refused { why, value },
     }
 }

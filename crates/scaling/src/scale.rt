@@ -21,7 +21,7 @@ ghost use Rattle.packing.specs.Stands.{Stands};
 // An operand of any format: 2, 3, then the value. Zeros and infinities stay as they are.
 fn scale_of(shape: Shape, x: Operand, power: i32) -> ScaleAnswer
     requires { ⌜ Sound (formatOf shape) × Stands (formatOf shape) x ⌝ }
-    ensures { λ r. ⌜ scaleMeaning (formatOf shape) r ≡ scaleOf (formatOf shape) (classIn (shape .smallest) x) power ⌝ }
+    ensures { λ r. ⌜ scaleMeaning r ≡ scaleOf (formatOf shape) (classIn (shape .smallest) x) power ⌝ }
 {
     match x {
         Operand::Unsupported => ScaleAnswer::Refused(Refusal::Unsupported),
@@ -43,28 +43,28 @@ fn scale_of(shape: Shape, x: Operand, power: i32) -> ScaleAnswer
 }
 
 pub fn scale16(x: u16, power: i32) -> ScaleAnswer
-    ensures { λ r. ⌜ scaleMeaning binary16 r ≡ scaleReport binary16 x power ⌝ }
+    ensures { λ r. ⌜ scaleMeaning r ≡ scaleReport binary16 x power ⌝ }
 {
     let operand = Binary16::of_pattern(x).operand;
     scale_of(Binary16::shape(), operand, power)
 }
 
 pub fn scale32(x: u32, power: i32) -> ScaleAnswer
-    ensures { λ r. ⌜ scaleMeaning binary32 r ≡ scaleReport binary32 x power ⌝ }
+    ensures { λ r. ⌜ scaleMeaning r ≡ scaleReport binary32 x power ⌝ }
 {
     let operand = Binary32::of_pattern(x).operand;
     scale_of(Binary32::shape(), operand, power)
 }
 
 pub fn scale64(x: u64, power: i32) -> ScaleAnswer
-    ensures { λ r. ⌜ scaleMeaning binary64 r ≡ scaleReport binary64 x power ⌝ }
+    ensures { λ r. ⌜ scaleMeaning r ≡ scaleReport binary64 x power ⌝ }
 {
     let operand = Binary64::of_pattern(x).operand;
     scale_of(Binary64::shape(), operand, power)
 }
 
 pub fn scale80(x: u64, xw: u16, power: i32) -> ScaleAnswer
-    ensures { λ r. ⌜ scaleMeaning x87 r ≡ scaleReport x87 (words xw x) power ⌝ }
+    ensures { λ r. ⌜ scaleMeaning r ≡ scaleReport x87 (words xw x) power ⌝ }
 {
     let operand = X87::of_pattern(x, xw).operand;
     scale_of(X87::shape(), operand, power)

@@ -20,7 +20,7 @@ ghost use Rattle.packing.specs.Stands.{Stands};
 // An operand of any format: 2, 3, 4, 8, then its leading one at the place of 1, and the exponent that it had.
 fn split_of(shape: Shape, x: Operand) -> SplitAnswer
     requires { ⌜ Sound (formatOf shape) × Stands (formatOf shape) x ⌝ }
-    ensures { λ r. ⌜ splitMeaning (formatOf shape) r ≡ splitOf (formatOf shape) (classIn (shape .smallest) x) ⌝ }
+    ensures { λ r. ⌜ splitMeaning r ≡ splitOf (formatOf shape) (classIn (shape .smallest) x) ⌝ }
 {
     match x {
         Operand::Unsupported => SplitAnswer::Refused(Refusal::Unsupported),
@@ -42,28 +42,28 @@ fn split_of(shape: Shape, x: Operand) -> SplitAnswer
 }
 
 pub fn split16(x: u16) -> SplitAnswer
-    ensures { λ r. ⌜ splitMeaning binary16 r ≡ splitReport binary16 x ⌝ }
+    ensures { λ r. ⌜ splitMeaning r ≡ splitReport binary16 x ⌝ }
 {
     let operand = Binary16::of_pattern(x).operand;
     split_of(Binary16::shape(), operand)
 }
 
 pub fn split32(x: u32) -> SplitAnswer
-    ensures { λ r. ⌜ splitMeaning binary32 r ≡ splitReport binary32 x ⌝ }
+    ensures { λ r. ⌜ splitMeaning r ≡ splitReport binary32 x ⌝ }
 {
     let operand = Binary32::of_pattern(x).operand;
     split_of(Binary32::shape(), operand)
 }
 
 pub fn split64(x: u64) -> SplitAnswer
-    ensures { λ r. ⌜ splitMeaning binary64 r ≡ splitReport binary64 x ⌝ }
+    ensures { λ r. ⌜ splitMeaning r ≡ splitReport binary64 x ⌝ }
 {
     let operand = Binary64::of_pattern(x).operand;
     split_of(Binary64::shape(), operand)
 }
 
 pub fn split80(x: u64, xw: u16) -> SplitAnswer
-    ensures { λ r. ⌜ splitMeaning x87 r ≡ splitReport x87 (words xw x) ⌝ }
+    ensures { λ r. ⌜ splitMeaning r ≡ splitReport x87 (words xw x) ⌝ }
 {
     let operand = X87::of_pattern(x, xw).operand;
     split_of(X87::shape(), operand)

@@ -2,19 +2,20 @@
 use mathlib.Core.Path.{_≡_, refl, sym, ap, _∙_}
 use mathlib.Core.Bool.{Bool, true, false, not, cond}
 use mathlib.Core.List.{List, _++_}
-use Prim.Native.Nat.{ℕ, _≤_, _<_}
-use native.Mathlib.Omega.{arith}
-use borrow.Author.Tests.{le-leb, lt-leb, not-false}
+use Prim.Native.Nat.{ℕ}
+use borrow.Author.Tests.{not-false}
 use lib.Dec.{eqb, lit<}
 use Rattle.definitions.specs.Class.{Class, finite}
 use Rattle.definitions.specs.Format.{Representable, x87, classOf, patternOf}
 use Rattle.definitions.specs.Numbers.{Check, first, accepted, dividing}
+use Rattle.definitions.specs.Facts.{refusedValue}
 use Rattle.definitions.specs.Division.{Outcome, dividendOf, divisorOf}
 use Rattle.definitions.specs.Remainder.{quotientBits}
 use Rattle.definitions.specs.Steps.{run}
 use Rattle.definitions.specs.Reports.{nothing, sized, calling, reportOf, stepReport, runReport}
-use Rattle.definitions.specs.Answers.{refusalNumber, stepsMeaning}
+use Rattle.definitions.specs.Answers.{refusalNumber, stepsMeaning, joined}
 use Rattle.definitions.specs.declared.Kind.{Kind}
+use Rattle.definitions.specs.declared.Pattern.{Pattern}
 use Rattle.definitions.specs.declared.Refusal.{Refusal}
 use Rattle.definitions.specs.declared.StepsAnswer.the-variants.{Refused}
 use Rattle.laws.proofs.Refusals.{refusal-refuses}
@@ -32,16 +33,7 @@ use Rattle.steps.specs.Called.{ranReport, callReport}
 use Rattle.runs.specs.declared.Ran.{Ran}
 use Rattle.runs.proofs.Loop.{ran-held, ran-stands}
 
--- ---- the size, by the two comparisons
-
-pub size-small : (n : ℕ) → n < 32 → sized n ≡ false
-size-small n h = simp (lt-leb 32 n h)
-
-pub size-large : (n : ℕ) → 63 < n → sized n ≡ false
-size-large n h = simp (le-leb 32 n (omega arith), lt-leb n 63 h)
-
-pub size-right : (n : ℕ) → 32 ≤ n → n ≤ 63 → sized n ≡ true
-size-right n h k = simp (le-leb 32 n h, le-leb n 63 k)
+-- ---- the size
 
 -- a wrong size has the number 6 whatever is checked after it, and a right one leaves the number to that
 module _ (n : ℕ) (cs : List Check) where
@@ -68,9 +60,10 @@ module _ (u : ℕ) (κ : Kind) (n budget : ℕ) (a b : Class) where
   outcome : Outcome
   outcome = run κ n budget (divisorOf b) (dividendOf a)
 
-  pub refused-call : (w : Refusal) → refusal nothing n a b ≡ refusalNumber w → stepsMeaning u (Refused w) ≡ callReport u κ n budget a b
+  pub refused-call : (w : Refusal) (v : Pattern) → refusal nothing n a b ≡ refusalNumber w → joined v ≡ refusedValue x87 (refusalNumber w) a b
+      → stepsMeaning u (Refused w v) ≡ callReport u κ n budget a b
   unfolding first stepsMeaning outcome
-  refused-call w e = rw (ended n a b (cond (not (outcome .done)) u 0), e, refusal-some w, refusal-refuses w)
+  refused-call w v e i = rw (ended n a b (cond (not (outcome .done)) u 0), e, refusal-some w, refusal-refuses w, ← i)
 
   -- an accepted call's run, written down
   pub accepted-call : accepted u ≡ true → refusal nothing n a b ≡ 0 → (t : Ran) → t ≡ ranOf (run κ n budget (divisorOf b) (dividendOf a))
@@ -79,9 +72,10 @@ module _ (u : ℕ) (κ : Kind) (n budget : ℕ) (a b : Class) where
   accepted-call ok e t i h =
       ap (λ (s : Ran). ranReport u s) i
       ∙ (λ j. record { number = cond (outcome .done) 0 u; value = patternOf x87 (class-of x87 sound80 (finite (outcome .value)) h j); quotient = bits-low (outcome .whole) j; steps = outcome .steps })
-      ∙ go (outcome .done) ∙ sym (ap (λ (k : ℕ). reportOf k outcome) (ended n a b (cond (not (outcome .done)) u 0) ∙ rw e))
+      ∙ go (outcome .done) ∙ sym (ap (λ (k : ℕ). reportOf (refusedValue x87 k a b) k outcome) (ended n a b (cond (not (outcome .done)) u 0) ∙ rw e))
     where
-      go : (d : Bool) → record { number = cond d 0 u; value = patternOf x87 (finite (outcome .value)); quotient = quotientBits (outcome .whole); steps = outcome .steps } ≡ reportOf (cond (not d) u 0) outcome
+      go : (d : Bool) → record { number = cond d 0 u; value = patternOf x87 (finite (outcome .value)); quotient = quotientBits (outcome .whole); steps = outcome .steps }
+          ≡ (let k = cond (not d) u 0 in reportOf (refusedValue x87 k a b) k outcome)
       go true = refl
       go false = rw ok
 

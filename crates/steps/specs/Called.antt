@@ -5,6 +5,7 @@ use mathlib.Core.List.{[], _∷_, _++_}
 use Rattle.definitions.specs.Class.{Class}
 use Rattle.definitions.specs.Format.{x87, patternOf}
 use Rattle.definitions.specs.Numbers.{check, first, dividing}
+use Rattle.definitions.specs.Facts.{refusedValue}
 use Rattle.definitions.specs.Division.{dividendOf, divisorOf}
 use Rattle.definitions.specs.Remainder.{quotientBits}
 use Rattle.definitions.specs.Steps.{run}
@@ -27,4 +28,5 @@ ranReport u t =
 abbrev pub callReport : ℕ → Kind → ℕ → ℕ → Class → Class → Report ℕ
 callReport u κ n b x y =
     let r = run κ n b (divisorOf y) (dividendOf x) in
-    reportOf (first (calling nothing n ++ (dividing x y ++ (check u (not (r .done)) ∷ [])))) r
+    let k = first (calling nothing n ++ (dividing x y ++ (check u (not (r .done)) ∷ []))) in
+    reportOf (refusedValue x87 k x y) k r

@@ -4,6 +4,7 @@ use checks::pair::judge_pair;
 use definitions::Kind;
 use definitions::Refusal;
 use definitions::StepsAnswer;
+use facts::nan::refused_value;
 use formats::x87::X87;
 use operands::Operand;
 use operands::divisor_of;
@@ -19,18 +20,25 @@ ghost use lib.IntN.{ℤ};
 ghost use Rattle.definitions.specs.Class.{Class};
 ghost use Rattle.definitions.specs.Format.{x87};
 ghost use Rattle.definitions.specs.Numbers.{first, accepted, dividing};
-ghost use Rattle.definitions.specs.Reports.{nothing, calling};
+ghost use Rattle.definitions.specs.Reports.{nothing, sized, calling};
 ghost use Rattle.definitions.specs.Answers.{stepsMeaning};
 ghost use Rattle.operands.specs.Operand.{operandOf, classIn};
 ghost use Rattle.checks.specs.Verdict.{verdictNumber};
 ghost use Rattle.packing.specs.Stands.{Stands, StandsValue};
 ghost use Rattle.steps.specs.Called.{ranReport, callReport};
 
+// A size that a step or a run takes.
+pub fn is_sized(size: u32) -> bool
+    ensures { λ r. ⌜ r ≡ sized size ⌝ }
+{
+    32 <= size && size <= 63
+}
+
 // The size, 6, then the operands.
 fn judge_call(x: Operand, y: Operand, size: u32) -> Verdict
     ensures { λ r. ⌜ ((s : ℤ) (a b : Class) → x ≡ operandOf s a → y ≡ operandOf s b → verdictNumber r ≡ first (calling nothing size ++ dividing a b)) ⌝ }
 {
-    if size < 32 || 63 < size {
+    if !is_sized(size) {
         return Verdict::Refused(Refusal::BadSize);
     }
     judge_pair(x, y)
@@ -66,7 +74,10 @@ pub fn call(x: Operand, y: Operand, size: u32, kind: Kind, budget: u32) -> Steps
     ensures { λ r. ⌜ ((unfinished : ℕ) → accepted unfinished ≡ true → stepsMeaning unfinished r ≡ callReport unfinished kind size budget (classIn (x87 .smallest) x) (classIn (x87 .smallest) y)) ⌝ }
 {
     match judge_call(x, y, size) {
-        Verdict::Refused(why) => StepsAnswer::Refused(why),
+        Verdict::Refused(why) => StepsAnswer::Refused {
+            why,
+            value: refused_value(X87::shape(), why, x, y),
+        },
         Verdict::Accepted => answer(run_value(kind, x, divisor_of(y), size, budget)),
     }
 }

@@ -87,7 +87,7 @@ module _ (p w place c : ℕ) (some : 0 < w) (word : w < 2 ^ 64) (is : roundedTo 
 
 -- what the code finds not to be a value is not limited
 pub limit-other : (bias : ℕ) (o : Operand) → OneOf (0 ∷ 1 ∷ 2 ∷ 3 ∷ []) (tagOf the-type o) → o ≡ limitOf bias o
-limit-other bias o k = other-cases (λ (o : Operand). o ≡ limitOf bias o) refl refl (λ n. refl) (λ n. refl) o k
+limit-other bias o k = other-cases (λ (o : Operand). o ≡ limitOf bias o) refl (λ n s. refl) (λ n. refl) (λ n. refl) o k
 
 -- leading zeros take few places from an exponent
 abbrev Near : Operand → Type 0

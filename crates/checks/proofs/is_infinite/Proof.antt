@@ -14,7 +14,7 @@ use Rattle.checks.proofs.is_infinite.Tie as tie
 
 not-infinite : (o : Operand) → OneOf (0 ∷ 1 ∷ 3 ∷ 4 ∷ []) (tagOf the-type o) → false ≡ infiniteOperand o
 not-infinite Unsupported k = refl
-not-infinite Nan k = refl
+not-infinite (Nan n s) k = refl
 not-infinite (Infinite n) k = absurd (miss (0 ∷ 1 ∷ 3 ∷ 4 ∷ []) 2 tt k)
 not-infinite (Zero n) k = refl
 not-infinite (Finite u) k = refl

@@ -14,7 +14,7 @@ use Rattle.checks.proofs.is_nan.Tie as tie
 
 not-nan : (o : Operand) → OneOf (0 ∷ 2 ∷ 3 ∷ 4 ∷ []) (tagOf the-type o) → false ≡ nanOperand o
 not-nan Unsupported k = refl
-not-nan Nan k = absurd (miss (0 ∷ 2 ∷ 3 ∷ 4 ∷ []) 1 tt k)
+not-nan (Nan n s) k = absurd (miss (0 ∷ 2 ∷ 3 ∷ 4 ∷ []) 1 tt k)
 not-nan (Infinite n) k = refl
 not-nan (Zero n) k = refl
 not-nan (Finite u) k = refl

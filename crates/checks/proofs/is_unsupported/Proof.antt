@@ -14,7 +14,7 @@ use Rattle.checks.proofs.is_unsupported.Tie as tie
 
 supported : (o : Operand) → OneOf (1 ∷ 2 ∷ 3 ∷ 4 ∷ []) (tagOf the-type o) → false ≡ unsupportedOperand o
 supported Unsupported k = absurd (miss (1 ∷ 2 ∷ 3 ∷ 4 ∷ []) 0 tt k)
-supported Nan k = refl
+supported (Nan n s) k = refl
 supported (Infinite n) k = refl
 supported (Zero n) k = refl
 supported (Finite u) k = refl

@@ -14,7 +14,7 @@ use Rattle.checks.proofs.is_zero.Tie as tie
 
 not-zero : (o : Operand) → OneOf (0 ∷ 1 ∷ 2 ∷ 4 ∷ []) (tagOf the-type o) → false ≡ zeroOperand o
 not-zero Unsupported k = refl
-not-zero Nan k = refl
+not-zero (Nan n s) k = refl
 not-zero (Infinite n) k = refl
 not-zero (Zero n) k = absurd (miss (0 ∷ 1 ∷ 2 ∷ 4 ∷ []) 3 tt k)
 not-zero (Finite u) k = refl

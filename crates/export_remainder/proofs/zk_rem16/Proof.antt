@@ -13,7 +13,7 @@ use Rattle.export_remainder.proofs.zk_rem16.Statement.{statement}
 use Rattle.export_remainder.proofs.zk_rem16.Tie as tie
 
 -- what is told is the remainder of the kind that the number asks for
-told : (c : tie.After-remainder16) → let a = c .before .before .args in remainderMeaning binary16 (c .remainder16 .result) ≡ remainder binary16 (kindOf (a .kind)) (a .x) (a .y)
+told : (c : tie.After-remainder16) → let a = c .before .before .args in remainderMeaning (c .remainder16 .result) ≡ remainder binary16 (kindOf (a .kind)) (a .x) (a .y)
 told c = rw (c .before .kind-of .ensures) at (c .remainder16 .ensures)
 
 kind-of-requires : tie.Need-kind-of-requires

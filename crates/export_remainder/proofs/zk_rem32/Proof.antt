@@ -13,7 +13,7 @@ use Rattle.export_remainder.proofs.zk_rem32.Statement.{statement}
 use Rattle.export_remainder.proofs.zk_rem32.Tie as tie
 
 -- what is told is the remainder of the kind that the number asks for
-told : (c : tie.After-remainder32) → let a = c .before .before .args in remainderMeaning binary32 (c .remainder32 .result) ≡ remainder binary32 (kindOf (a .kind)) (a .x) (a .y)
+told : (c : tie.After-remainder32) → let a = c .before .before .args in remainderMeaning (c .remainder32 .result) ≡ remainder binary32 (kindOf (a .kind)) (a .x) (a .y)
 told c = rw (c .before .kind-of .ensures) at (c .remainder32 .ensures)
 
 kind-of-requires : tie.Need-kind-of-requires

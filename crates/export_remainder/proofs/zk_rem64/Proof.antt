@@ -12,7 +12,7 @@ use Rattle.export_remainder.proofs.zk_rem64.Statement.{statement}
 use Rattle.export_remainder.proofs.zk_rem64.Tie as tie
 
 -- what is told is the remainder of the kind that the number asks for
-told : (c : tie.After-remainder64) → let a = c .before .before .args in remainderMeaning binary64 (c .remainder64 .result) ≡ remainder binary64 (kindOf (a .kind)) (a .x) (a .y)
+told : (c : tie.After-remainder64) → let a = c .before .before .args in remainderMeaning (c .remainder64 .result) ≡ remainder binary64 (kindOf (a .kind)) (a .x) (a .y)
 told c = rw (c .before .kind-of .ensures) at (c .remainder64 .ensures)
 
 kind-of-requires : tie.Need-kind-of-requires

@@ -12,7 +12,7 @@ use Rattle.export_remainder.proofs.zk_rem80.Statement.{statement}
 use Rattle.export_remainder.proofs.zk_rem80.Tie as tie
 
 -- what is told is the remainder of the kind that the number asks for
-told : (c : tie.After-remainder80) → let a = c .before .before .args in remainderMeaning x87 (c .remainder80 .result) ≡ remainder x87 (kindOf (a .kind)) (words (a .xw) (a .x)) (words (a .yw) (a .y))
+told : (c : tie.After-remainder80) → let a = c .before .before .args in remainderMeaning (c .remainder80 .result) ≡ remainder x87 (kindOf (a .kind)) (words (a .xw) (a .x)) (words (a .yw) (a .y))
 told c = rw (c .before .kind-of .ensures) at (c .remainder80 .ensures)
 
 kind-of-requires : tie.Need-kind-of-requires

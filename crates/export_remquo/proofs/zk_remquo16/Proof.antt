@@ -15,7 +15,7 @@ use Rattle.export_remquo.proofs.zk_remquo16.Statement.{statement}
 use Rattle.export_remquo.proofs.zk_remquo16.Tie as tie
 
 -- what is told is the remainder of the kind that the number asks for
-told : (c : tie.After-remquo16) → let a = c .before .before .args in signedMeaning binary16 (c .remquo16 .result) ≡ signedRemainder binary16 (kindOf (a .kind)) (a .x) (a .y)
+told : (c : tie.After-remquo16) → let a = c .before .before .args in signedMeaning (c .remquo16 .result) ≡ signedRemainder binary16 (kindOf (a .kind)) (a .x) (a .y)
 told c = rw (c .before .kind-of .ensures) at (c .remquo16 .ensures)
 
 kind-of-requires : tie.Need-kind-of-requires

@@ -15,7 +15,7 @@ use Rattle.export_remquo.proofs.zk_remquo32.Statement.{statement}
 use Rattle.export_remquo.proofs.zk_remquo32.Tie as tie
 
 -- what is told is the remainder of the kind that the number asks for
-told : (c : tie.After-remquo32) → let a = c .before .before .args in signedMeaning binary32 (c .remquo32 .result) ≡ signedRemainder binary32 (kindOf (a .kind)) (a .x) (a .y)
+told : (c : tie.After-remquo32) → let a = c .before .before .args in signedMeaning (c .remquo32 .result) ≡ signedRemainder binary32 (kindOf (a .kind)) (a .x) (a .y)
 told c = rw (c .before .kind-of .ensures) at (c .remquo32 .ensures)
 
 kind-of-requires : tie.Need-kind-of-requires

@@ -14,7 +14,7 @@ use Rattle.export_remquo.proofs.zk_remquo64.Statement.{statement}
 use Rattle.export_remquo.proofs.zk_remquo64.Tie as tie
 
 -- what is told is the remainder of the kind that the number asks for
-told : (c : tie.After-remquo64) → let a = c .before .before .args in signedMeaning binary64 (c .remquo64 .result) ≡ signedRemainder binary64 (kindOf (a .kind)) (a .x) (a .y)
+told : (c : tie.After-remquo64) → let a = c .before .before .args in signedMeaning (c .remquo64 .result) ≡ signedRemainder binary64 (kindOf (a .kind)) (a .x) (a .y)
 told c = rw (c .before .kind-of .ensures) at (c .remquo64 .ensures)
 
 kind-of-requires : tie.Need-kind-of-requires

@@ -14,7 +14,7 @@ use Rattle.export_remquo.proofs.zk_remquo80.Statement.{statement}
 use Rattle.export_remquo.proofs.zk_remquo80.Tie as tie
 
 -- what is told is the remainder of the kind that the number asks for
-told : (c : tie.After-remquo80) → let a = c .before .before .args in signedMeaning x87 (c .remquo80 .result) ≡ signedRemainder x87 (kindOf (a .kind)) (words (a .xw) (a .x)) (words (a .yw) (a .y))
+told : (c : tie.After-remquo80) → let a = c .before .before .args in signedMeaning (c .remquo80 .result) ≡ signedRemainder x87 (kindOf (a .kind)) (words (a .xw) (a .x)) (words (a .yw) (a .y))
 told c = rw (c .before .kind-of .ensures) at (c .remquo80 .ensures)
 
 kind-of-requires : tie.Need-kind-of-requires

@@ -12,7 +12,7 @@ enum-known-y : tie.Need-enum-known-y
 enum-known-y c = search needs
 
 returns : tie.Need-returns
-returns c = other-cases (λ (o : Operand). Unbounded ≡ divisorOperand o) refl refl (λ n. refl) (λ n. refl) (c .before .args .y) (c .match .keys2)
+returns c = other-cases (λ (o : Operand). Unbounded ≡ divisorOperand o) refl (λ n s. refl) (λ n. refl) (λ n. refl) (c .before .args .y) (c .match .keys2)
 
 returns-2 : tie.Need-returns-2
 returns-2 c = rw (c .before .y .given .1)

@@ -14,7 +14,7 @@ use Rattle.export_scaling.proofs.scale.zk_scale16.Statement.{statement}
 use Rattle.export_scaling.proofs.scale.zk_scale16.Tie as tie
 
 -- what is told, of the power that was handed over
-told : (c : tie.After-scale16) → let a = c .before .args in scaleMeaning binary16 (c .scale16 .result) ≡ scaleReport binary16 (a .x) (a .power)
+told : (c : tie.After-scale16) → let a = c .before .args in scaleMeaning (c .scale16 .result) ≡ scaleReport binary16 (a .x) (a .power)
 told c = rw (toZ-ofZ w32 (c .before .args .power) (c .before .fits .power)) at (c .scale16 .ensures)
 
 scale16-requires : tie.Need-scale16-requires

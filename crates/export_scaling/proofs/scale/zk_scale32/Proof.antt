@@ -14,7 +14,7 @@ use Rattle.export_scaling.proofs.scale.zk_scale32.Statement.{statement}
 use Rattle.export_scaling.proofs.scale.zk_scale32.Tie as tie
 
 -- what is told, of the power that was handed over
-told : (c : tie.After-scale32) → let a = c .before .args in scaleMeaning binary32 (c .scale32 .result) ≡ scaleReport binary32 (a .x) (a .power)
+told : (c : tie.After-scale32) → let a = c .before .args in scaleMeaning (c .scale32 .result) ≡ scaleReport binary32 (a .x) (a .power)
 told c = rw (toZ-ofZ w32 (c .before .args .power) (c .before .fits .power)) at (c .scale32 .ensures)
 
 scale32-requires : tie.Need-scale32-requires

@@ -13,7 +13,7 @@ use Rattle.export_scaling.proofs.scale.zk_scale64.Statement.{statement}
 use Rattle.export_scaling.proofs.scale.zk_scale64.Tie as tie
 
 -- what is told, of the power that was handed over
-told : (c : tie.After-scale64) → let a = c .before .args in scaleMeaning binary64 (c .scale64 .result) ≡ scaleReport binary64 (a .x) (a .power)
+told : (c : tie.After-scale64) → let a = c .before .args in scaleMeaning (c .scale64 .result) ≡ scaleReport binary64 (a .x) (a .power)
 told c = rw (toZ-ofZ w32 (c .before .args .power) (c .before .fits .power)) at (c .scale64 .ensures)
 
 scale64-requires : tie.Need-scale64-requires

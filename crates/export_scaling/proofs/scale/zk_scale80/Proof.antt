@@ -13,7 +13,7 @@ use Rattle.export_scaling.proofs.scale.zk_scale80.Statement.{statement}
 use Rattle.export_scaling.proofs.scale.zk_scale80.Tie as tie
 
 -- what is told, of the power that was handed over
-told : (c : tie.After-scale80) → let a = c .before .args in scaleMeaning x87 (c .scale80 .result) ≡ scaleReport x87 (words (a .xw) (a .x)) (a .power)
+told : (c : tie.After-scale80) → let a = c .before .args in scaleMeaning (c .scale80 .result) ≡ scaleReport x87 (words (a .xw) (a .x)) (a .power)
 told c = rw (toZ-ofZ w32 (c .before .args .power) (c .before .fits .power)) at (c .scale80 .ensures)
 
 scale80-requires : tie.Need-scale80-requires

@@ -18,7 +18,7 @@ one-word : (c : tie.After-known-told) → joined (c .before .answer .given .0 .0
 unfolding remainderMeaning
 one-word c =
     let s = c .before .before .before in
-    subst (λ (a : RemainderAnswer). remainderMeaning binary64 a .value < 2 ^ 64) (c .before .answer .given .1) (s .pre .0)
+    subst (λ (a : RemainderAnswer). remainderMeaning a .value < 2 ^ 64) (c .before .answer .given .1) (s .pre .0)
 
 shown-bits-requires : tie.Need-shown-bits-requires
 shown-bits-requires c κs = search needs
@@ -39,7 +39,7 @@ add-digits-line-2 : tie.Need-add-digits-line-2
 unfolding remainderMeaning
 add-digits-line-2 c =
     let s = c .before .before .before .before in
-    let n = subst (λ (a : RemainderAnswer). remainderMeaning binary64 a .number ≤ 9) (c .before .before .answer2 .given .1) (s .pre .1) in
+    let n = subst (λ (a : RemainderAnswer). remainderMeaning a .number ≤ 9) (c .before .before .answer2 .given .1) (s .pre .1) in
     rw (c .number-of .ensures) (omega (arith, n))
 
 digits-line-requires-2 : tie.Need-digits-line-requires-2

@@ -16,6 +16,9 @@ judge-pair-requires c κs = search needs
 enum-known-why : tie.Need-enum-known-why
 enum-known-why c = search needs
 
+refused-value-requires : tie.Need-refused-value-requires
+refused-value-requires c κs = search needs
+
 enum-told : tie.Need-enum-told
 enum-told c = search needs
 
@@ -36,9 +39,11 @@ divide-by-requires c κs =
 
 returns : tie.Need-returns
 returns c =
-    let s = c .before .before .before .before in
-    refused (formatOf (s .args .shape)) (s .pre .0) (s .args .x) (s .args .y) (s .args .kind) _
-    (refused-number _ _ _ (c .before .why .given .1) (c .before .before .before .judge-pair .ensures (s .args .shape .smallest) _ _ (s .pre .1 .is) (s .pre .2 .is)))
+    let k = c .before in
+    let s = k .before .before .before .before in
+    refused (formatOf (s .args .shape)) (s .pre .0) (s .args .x) (s .args .y) (s .args .kind) _ _
+    (refused-number _ _ _ (k .before .why .given .1) (k .before .before .before .judge-pair .ensures (s .args .shape .smallest) _ _ (s .pre .1 .is) (s .pre .2 .is)))
+    (c .refused-value .ensures)
 
 returns-2 : tie.Need-returns-2
 returns-2 c =
@@ -52,6 +57,7 @@ remainder-of-spec =
     (tie.spec
     judge-pair-requires
     enum-known-why
+    refused-value-requires
     enum-told
     divisor-of-requires
     divide-by-requires

@@ -1,8 +1,8 @@
 -- `remquo32` meets its contract: the shape is that of binary32, and the operands are those of the patterns. Assumes nothing.
 use Rattle.definitions.specs.Format.{binary32}
 use Rattle.shapes.proofs.Sounds.{sound32}
-use Rattle.remainder.proofs.OfPatterns.{patterns-stand}
-use Rattle.remquo.proofs.OfOperands.{patterns-signed}
+use Rattle.packing.proofs.Standing.{patterns-stand}
+use Rattle.remquo.proofs.OfOperands.{patterns-signed, patterns-denormal}
 use borrow.Author.Needs.{needs}
 use Rattle.remquo.proofs.patterns.remquo32.Statement.{statement}
 use Rattle.remquo.proofs.patterns.remquo32.Tie as tie
@@ -19,11 +19,17 @@ shape-requires c κs = search needs
 signed-of-requires : tie.Need-signed-of-requires
 signed-of-requires c κs = patterns-stand binary32 sound32 _ (c .shape .ensures) _ _ _ _ (c .before .before .of-pattern .ensures) (c .before .of-pattern2 .ensures)
 
+any-denormal32-requires : tie.Need-any-denormal32-requires
+any-denormal32-requires c κs = search needs
+
 returns : tie.Need-returns
 returns c =
-    patterns-signed binary32 sound32 _ (c .before .shape .ensures) _ _ _ _ (c .before .before .before .of-pattern .ensures) (c .before .before .of-pattern2 .ensures) _ (c .signed-of .result)
-    (c .signed-of .ensures)
+    let d = c .before .before in
+    let x = d .before .before .of-pattern .ensures in
+    let y = d .before .of-pattern2 .ensures in
+    (patterns-signed binary32 sound32 _ (d .shape .ensures) _ _ _ _ x y _ (c .before .signed-of .result) (c .before .signed-of .ensures),
+    patterns-denormal binary32 sound32 _ (d .shape .ensures) _ _ _ _ x y _ (c .any-denormal32 .result) (c .any-denormal32 .ensures))
 
 pub remquo32-spec : {M : Type 1} → statement M
 remquo32-spec =
-    tie.close (tie.spec of-pattern-requires of-pattern-requires-2 shape-requires signed-of-requires returns)
+    tie.close (tie.spec of-pattern-requires of-pattern-requires-2 shape-requires signed-of-requires any-denormal32-requires returns)

@@ -41,7 +41,7 @@ returns c =
 returns-2 : tie.Need-returns-2
 returns-2 c =
     let r = c .before .before .before in
-    refused (formatOf (r .before .args .shape)) (r .before .args .kind) _ _ (r .remainder-of .result) (r .remainder-of .ensures) _ (c .before .why .given .1)
+    refused (formatOf (r .before .args .shape)) (r .before .args .kind) _ _ (r .remainder-of .result) (r .remainder-of .ensures) _ _ (c .before .why .given .1)
 
 pub signed-of-spec : {M : Type 1} → statement M
 signed-of-spec =

@@ -6,6 +6,7 @@ use Rattle.chains.proofs.Spent.{refusal}
 use Rattle.checks.specs.Verdict.{verdictNumber}
 use Rattle.checks.proofs.Judged.{refused-number, accepted-number}
 use Rattle.operands.specs.Operand.{classIn}
+use Rattle.shapes.proofs.Sounds.{sound80}
 use Rattle.steps.proofs.Called.{refused-call, ready-call, ran-writable, ran-call}
 use borrow.Author.Needs.{needs}
 use Rattle.steps.proofs.call.call.Statement.{statement}
@@ -16,6 +17,12 @@ judge-call-requires c κs = search needs
 
 enum-known-why : tie.Need-enum-known-why
 enum-known-why c = search needs
+
+shape-requires : tie.Need-shape-requires
+shape-requires c κs = search needs
+
+refused-value-requires : tie.Need-refused-value-requires
+refused-value-requires c κs = let s = c .before .before .before .before .before in rw (c .shape .ensures) (sound80, s .pre .0, s .pre .1)
 
 enum-told : tie.Need-enum-told
 enum-told c = search needs
@@ -48,10 +55,12 @@ answer-requires c κs =
 
 returns : tie.Need-returns
 returns c u ok =
-    let j = c .before .before .before in
+    let k = c .before .before in
+    let j = k .before .before .before in
     let a = j .before .args in
-    let w = c .before .why .given in
-    refused-call u (a .kind) (a .size) (a .budget) (classIn (x87 .smallest) (a .x)) (classIn (x87 .smallest) (a .y)) (w .0 .0) (refused-number (j .judge-call .result) (w .0 .0) _ (w .1) (judged j))
+    let w = k .before .why .given in
+    refused-call u (a .kind) (a .size) (a .budget) (classIn (x87 .smallest) (a .x)) (classIn (x87 .smallest) (a .y)) (w .0 .0) _
+    (refused-number (j .judge-call .result) (w .0 .0) _ (w .1) (judged j)) (rw (c .before .shape .ensures) at (c .refused-value .ensures))
 
 returns-2 : tie.Need-returns-2
 returns-2 c u ok =
@@ -68,6 +77,8 @@ call-spec =
     (tie.spec
     judge-call-requires
     enum-known-why
+    shape-requires
+    refused-value-requires
     enum-told
     divisor-of-requires
     run-value-requires

@@ -1,6 +1,7 @@
 -- `run80` meets its contract: a run is a call of its budget, on what the patterns stand for. Assumes nothing.
-use mathlib.Core.Path.{refl, _∙_}
+use mathlib.Core.Path.{refl, sym, _∙_}
 use Rattle.definitions.specs.Format.{words}
+use Rattle.definitions.proofs.Facts.{told-sized}
 use Rattle.steps.proofs.Called.{patterns-stand, run-report}
 use borrow.Author.Needs.{needs}
 use Rattle.steps.proofs.patterns.run80.Statement.{statement}
@@ -18,13 +19,18 @@ call-requires c κs =
     let a = x .before .args in
     patterns-stand (words (a .xw) (a .x)) (words (a .yw) (a .y)) (x .of-pattern .result .operand) (c .of-pattern2 .result .operand) (x .of-pattern .ensures) (c .of-pattern2 .ensures)
 
+told-denormal-requires : tie.Need-told-denormal-requires
+told-denormal-requires c κs = search needs
+
 returns : tie.Need-returns
 returns c =
-    let y = c .before in
+    let k = c .before in
+    let y = k .before in
     let x = y .before in
     let a = x .before .args in
-    c .call .ensures 7 refl
-    ∙ run-report (words (a .xw) (a .x)) (words (a .yw) (a .y)) (x .of-pattern .result .operand) (y .of-pattern2 .result .operand) (x .of-pattern .ensures) (y .of-pattern2 .ensures) (a .kind) (a .size) (a .budget)
+    (k .call .ensures 7 refl
+    ∙ run-report (words (a .xw) (a .x)) (words (a .yw) (a .y)) (x .of-pattern .result .operand) (y .of-pattern2 .result .operand) (x .of-pattern .ensures) (y .of-pattern2 .ensures) (a .kind) (a .size) (a .budget),
+    c .told-denormal .ensures ∙ sym (told-sized (a .kind) (a .size) (a .budget) (words (a .xw) (a .x)) (words (a .yw) (a .y)) .1))
 
 pub run80-spec : {M : Type 1} → statement M
-run80-spec = tie.close (tie.spec of-pattern-requires of-pattern-requires-2 call-requires returns)
+run80-spec = tie.close (tie.spec of-pattern-requires of-pattern-requires-2 call-requires told-denormal-requires returns)
