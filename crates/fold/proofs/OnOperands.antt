@@ -1,11 +1,13 @@
 -- A place on the code's operands: what its dividend stands for, and that its value is one word. Assumes nothing.
 use mathlib.Core.Path.{_≡_, ap, _∙_}
-use mathlib.Core.Bool.{false, _||_}
+use mathlib.Core.Bool.{true, false, _||_}
 use Prim.Native.Nat.{ℕ, _^_, _<_}
 use native.Mathlib.Omega.{arith}
 use Rattle.definitions.specs.Class.{finite}
 use Rattle.definitions.specs.Format.{Representable, binary64, classOf, patternOf}
 use Rattle.definitions.specs.Numbers.{first, isZero}
+use Rattle.definitions.specs.Facts.{nanOf}
+use Rattle.definitions.specs.Division as definitions
 use Rattle.definitions.specs.Division.{finish, dividendOf, divisorOf}
 use Rattle.definitions.specs.Remainder.{quotientBits, shown}
 use Rattle.definitions.specs.Answers.{joined}
@@ -15,7 +17,8 @@ use Rattle.definitions.specs.declared.Pattern.{Pattern}
 use Rattle.operands.specs.Operand.{operandOf, valueOperand, divisorOperand, divisorIn}
 use Rattle.operands.specs.declared.Operand.{Operand}
 use Rattle.operands.specs.declared.Divisor.{Divisor}
-use Rattle.laws.proofs.RoundTrip.{pattern-small, read-held}
+use Rattle.laws.proofs.RoundTrip.{pattern-small, read-held, read-holds}
+use Rattle.laws.proofs.Results.{result-small, nan-result}
 use Rattle.checks.specs.Verdict.{nanOperand, infiniteOperand}
 use Rattle.checks.proofs.Judged.{nan-told, infinite-told, accepted-divisor}
 use Rattle.packing.specs.Stands.{StandsValue, StandsDivisor}
@@ -32,6 +35,13 @@ low-word p n e h = omega arith
 module _ (x : ℕ) (o : Operand) (e : o ≡ operandOf (binary64 .smallest) (classOf binary64 x)) where
   pub bad-told : nanOperand o || infiniteOperand o ≡ bad x
   bad-told = rw (e, nan-told (binary64 .smallest) (classOf binary64 x), infinite-told (binary64 .smallest) (classOf binary64 x))
+
+  -- the place of a NaN or an infinity
+  pub marked : (κ : Kind) (d : definitions.Divisor) (p : Pattern) → bad x ≡ true → joined p ≡ nanOf binary64 (classOf binary64 x) (classOf binary64 x)
+      → record { value = p .low; byte = 255 } ≡ placeBy κ d x
+  marked κ d p b q =
+      let h = read-holds binary64 (sound64 .regular) x in
+      rw (b, low-word p _ q (result-small binary64 (sound64 .regular) (nan-result binary64 (sound64 .regular) (classOf binary64 x) (classOf binary64 x) h h)))
 
   module _ (g : bad x ≡ false) where
     is-value : o ≡ operandOf (binary64 .smallest) (finite (dividendOf (classOf binary64 x)))

@@ -6,6 +6,7 @@ use checks::number_of;
 use checks::verdict_number;
 use definitions::Kind;
 use definitions::Refusal;
+use facts::patterns::nan64;
 use formats::binary::Binary64;
 use operands::Divisor;
 use operands::divisor_of;
@@ -34,14 +35,16 @@ struct Place {
 // The byte of a place with no remainder: no quotient that is shown is it.
 const MARK: u8 = 255;
 
+// A NaN's place gets that NaN, quiet, and an infinity's the house NaN.
 fn fold_place(x: u64, y: Divisor, kind: Kind) -> Place
     requires { ⌜ StandsDivisor binary64 y ⌝ }
     ensures { λ r. ⌜ r ≡ placeBy kind (divisorIn (binary64 .smallest) y) x ⌝ }
 {
     let dividend = Binary64::of_pattern(x).operand;
     if is_nan(dividend) || is_infinite(dividend) {
+        let marked = nan64(x, x);
         return Place {
-            value: Binary64::HOUSE_NAN,
+            value: marked.low,
             byte: MARK,
         };
     }

@@ -15,7 +15,7 @@ use Rattle.definitions.specs.Numbers.{isNan}
 use Rattle.definitions.specs.Facts.{against, chosen, quietWeight, quieted, quietPattern, nanOf}
 use Rattle.definitions.specs.declared.Layout.{Layout}
 use Rattle.definitions.specs.declared.Layout.the-variants.{Hidden, Explicit}
-use Rattle.definitions.proofs.Facts.{chosen-nan, chosen-one}
+use Rattle.definitions.proofs.Facts.{chosen-nan, chosen-one, chosen-same}
 use Rattle.laws.proofs.Layouts.{hidden-infinity}
 use Rattle.laws.proofs.Representable.{leading-twice}
 use Rattle.laws.proofs.RoundTrip.{read-nan, written-nan, read-stored, read-house-nan}
@@ -177,6 +177,11 @@ module _ (f : Format) (r : Regular f) where
   pub nan-alone : (y : Class) (n : Bool) (s : ℕ) → isNan y ≡ false → nanOf f (nan n s) y ≡ patternOf f (nan n (quieted f s))
   unfolding nanOf
   nan-alone y n s e = rw (chosen-one y n s e .1)
+
+  -- an operand with itself
+  pub nan-itself : (n : Bool) (s : ℕ) → nanOf f (nan n s) (nan n s) ≡ patternOf f (nan n (quieted f s))
+  unfolding nanOf
+  nan-itself n s = rw (chosen-same (nan n s))
 
   pub nan-none : (x y : Class) → isNan x || isNan y ≡ false → nanOf f x y ≡ houseNan f
   unfolding nanOf

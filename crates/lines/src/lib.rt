@@ -28,5 +28,6 @@ pub fn answer_line(line: &[u8]) -> Output
     let Field::Number(y) = read_field(&line[17..]) else {
         return bad_line();
     };
-    line_of_answer(remainder64(x, y, Kind::Truncated))
+    let answer = remainder64(x, y, Kind::Truncated).answer;
+    line_of_answer(answer)
 }

@@ -1,13 +1,11 @@
 // The lines that are written: an answer, and `bad line`.
 use checks::number_of;
 use definitions::RemainderAnswer;
-use formats::binary::Binary64;
 use hex::upper_hex;
 use quotients::shown_bits;
 ghost use mathlib.Core.Path.{_≡_};
 ghost use mathlib.Core.List.{[], _∷_, _++_};
 ghost use Prim.Native.Nat.{_≤_, _<_, _^_};
-ghost use Rattle.definitions.specs.Format.{binary64};
 ghost use Rattle.definitions.specs.Answers.{remainderMeaning};
 ghost use Rattle.definitions.specs.Line.{hexDigits, answerLine, badLine};
 ghost use Rattle.lines.specs.Output.{outputOf};
@@ -53,8 +51,8 @@ pub fn line_of_answer(answer: RemainderAnswer) -> Output
         RemainderAnswer::Finished { value, quotient } => {
             digits_line(value.low, b'0' + shown_bits(quotient), b'0')
         }
-        RemainderAnswer::Refused(why) => {
-            digits_line(Binary64::HOUSE_NAN, b'0', b'0' + number_of(why))
+        RemainderAnswer::Refused { why, value } => {
+            digits_line(value.low, b'0', b'0' + number_of(why))
         }
     }
 }

@@ -5,7 +5,7 @@ use mathlib.Core.Logic.{⊎-elim}
 use borrow.Author.Needs.{needs}
 use Rattle.definitions.specs.Fold.{bad}
 use Rattle.shapes.proofs.Sounds.{sound64}
-use Rattle.fold.proofs.OnOperands.{bad-told, dividend-stands, written}
+use Rattle.fold.proofs.OnOperands.{bad-told, marked, dividend-stands, written}
 use Rattle.fold.proofs.fold_place.Statement.{statement}
 use Rattle.fold.proofs.fold_place.Tie as tie
 
@@ -18,15 +18,21 @@ is-nan-requires c κs = search needs
 is-infinite-requires : tie.Need-is-infinite-requires
 is-infinite-requires c κs = search needs
 
+nan64-requires : tie.Need-nan64-requires
+nan64-requires c κs = search needs
+
 returns : tie.Need-returns
 returns c =
-    let n = c .before in
+    let t = c .before in
+    let n = t .before in
     let o = n .before in
-    let told = bad-told (o .before .args .x) (o .of-pattern .result .operand) (o .of-pattern .ensures) in
-    ⊎-elim
+    let s = o .before in
+    let told = bad-told (s .args .x) (o .of-pattern .result .operand) (o .of-pattern .ensures) in
+    marked (s .args .x) (o .of-pattern .result .operand) (o .of-pattern .ensures) (s .args .kind) _ (c .nan64 .result)
+    (⊎-elim
     (λ w. rw (← told, ← n .is-nan .ensures, w .taken))
     (λ w. rw (← told, ← n .is-nan .ensures, w .0 .left, ← w .1 .ensures, w .2 .taken))
-    (c .if1 .came)
+    (t .if1 .came)) (c .nan64 .ensures)
 
 -- a dividend that passes both tests
 good : (e : tie.Else2) → bad (e .before .before .before .before .before .args .x) ≡ false
@@ -66,6 +72,7 @@ fold-place-spec =
     of-pattern-requires
     is-nan-requires
     is-infinite-requires
+    nan64-requires
     returns
     shape-requires
     divide-by-requires

@@ -94,7 +94,7 @@ remainder64-requires : tie.Need-remainder64-requires
 remainder64-requires c κs = search needs
 
 line-of-answer-requires : tie.Need-line-of-answer-requires
-line-of-answer-requires c κs = rw (c .remainder64 .ensures) (remainder-small binary64 regular64 Truncated _ _, number-digit binary64 Truncated _ _)
+line-of-answer-requires c κs = rw (c .remainder64 .ensures .0) (remainder-small binary64 regular64 Truncated _ _, number-digit binary64 Truncated _ _)
 
 returns-5 : tie.Need-returns-5
 returns-5 c =
@@ -105,7 +105,7 @@ returns-5 c =
     let first = sym (x .before .before .read-field .ensures) ∙ x .x .given .1 in
     c .line-of-answer .ensures
     ∙ ap outputOf
-    (ap answerLine (c .before .remainder64 .ensures) ∙ sym (answered (line-of read) _ _ (long read) space first (second read ∙ y .y .given .1)))
+    (ap answerLine (c .before .remainder64 .ensures .0) ∙ sym (answered (line-of read) _ _ (long read) space first (second read ∙ y .y .given .1)))
 
 pub answer-line-spec : {M : Type 1} → statement M
 answer-line-spec =

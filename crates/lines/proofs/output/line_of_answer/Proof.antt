@@ -3,7 +3,6 @@ use mathlib.Core.Path.{_≡_, sym, subst}
 use Prim.Native.Nat.{_≤_, _<_, _^_}
 use native.Mathlib.Omega.{arith}
 use borrow.Author.Needs.{needs}
-use Rattle.definitions.specs.Format.{binary64}
 use Rattle.definitions.specs.Answers.{remainderMeaning, joined}
 use Rattle.definitions.specs.Line.{answerLine}
 use Rattle.definitions.specs.declared.RemainderAnswer.{RemainderAnswer}
@@ -32,6 +31,13 @@ digits-line-requires c κs = search needs
 enum-known-answer-2 : tie.Need-enum-known-answer-2
 enum-known-answer-2 c = search needs
 
+-- and so is a refusal's
+one-word-2 : (c : tie.After-known-told2) → joined (c .before .answer2 .given .0 .1 .0) < 2 ^ 64
+unfolding remainderMeaning
+one-word-2 c =
+    let s = c .before .before .before in
+    subst (λ (a : RemainderAnswer). remainderMeaning a .value < 2 ^ 64) (c .before .answer2 .given .1) (s .pre .0)
+
 number-of-requires : tie.Need-number-of-requires
 number-of-requires c κs = search needs
 
@@ -56,7 +62,12 @@ returns c =
 
 returns-2 : tie.Need-returns-2
 unfolding remainderMeaning answerLine
-returns-2 c = rw (c .before .before .before .answer2 .given .1, sym (c .before .number-of .ensures)) (c .digits-line2 .ensures)
+returns-2 c =
+    let t = c .before .before in
+    let w = one-word-2 t in
+    let v = t .before .answer2 .given in
+    let low : v .0 .1 .0 .low ≡ joined (v .0 .1 .0) = omega arith in
+    rw (v .1, ← low, sym (c .before .number-of .ensures)) (c .digits-line2 .ensures)
 
 pub line-of-answer-spec : {M : Type 1} → statement M
 line-of-answer-spec =

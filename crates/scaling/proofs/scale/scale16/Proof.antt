@@ -1,8 +1,11 @@
 -- `scale16` meets its contract: `scale_of` in the shape of binary16. Assumes nothing.
+use mathlib.Core.Path.{sym, _∙_}
 use mir.Syntax.{w32}
 use mir.ValLaws.{toZ-ofZ}
 use Rattle.definitions.specs.Format.{binary16}
 use Rattle.definitions.specs.Scale.{scaleReport}
+use Rattle.definitions.specs.declared.Kind.the-variants.{Truncated}
+use Rattle.definitions.proofs.Facts.{told-always}
 use Rattle.shapes.proofs.Sounds.{sound16}
 use Rattle.packing.proofs.Standing.{stands-pattern, class-pattern}
 use borrow.Author.Needs.{needs}
@@ -18,12 +21,17 @@ shape-requires c κs = search needs
 scale-of-requires : tie.Need-scale-of-requires
 scale-of-requires c κs = rw (c .shape .ensures) (sound16, stands-pattern binary16 sound16 (c .before .before .args .x) _ (c .before .of-pattern .ensures))
 
+denormal16-requires : tie.Need-denormal16-requires
+denormal16-requires c κs = search needs
+
 returns : tie.Need-returns
 unfolding scaleReport
 returns c =
-    let s = c .before .before .before in
-    rw (← class-pattern binary16 sound16 (s .args .x) _ (c .before .before .of-pattern .ensures))
-    (rw (c .before .shape .ensures, toZ-ofZ w32 (s .args .power) (s .fits .power)) at (c .scale-of .ensures))
+    let k = c .before in
+    let s = k .before .before .before in
+    (rw (← class-pattern binary16 sound16 (s .args .x) _ (k .before .before .of-pattern .ensures))
+    (rw (k .before .shape .ensures, toZ-ofZ w32 (s .args .power) (s .fits .power)) at (k .scale-of .ensures)),
+    c .denormal16 .ensures ∙ sym (told-always binary16 Truncated (s .args .x) 0 (s .args .power) .2))
 
 pub scale16-spec : {M : Type 1} → statement M
-scale16-spec = tie.close (tie.spec of-pattern-requires shape-requires scale-of-requires returns)
+scale16-spec = tie.close (tie.spec of-pattern-requires shape-requires scale-of-requires denormal16-requires returns)

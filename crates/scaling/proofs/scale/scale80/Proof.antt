@@ -1,8 +1,11 @@
 -- `scale80` meets its contract: `scale_of` in the shape of x87. Assumes nothing.
+use mathlib.Core.Path.{sym, _∙_}
 use mir.Syntax.{w32}
 use mir.ValLaws.{toZ-ofZ}
 use Rattle.definitions.specs.Format.{x87, words}
 use Rattle.definitions.specs.Scale.{scaleReport}
+use Rattle.definitions.specs.declared.Kind.the-variants.{Truncated}
+use Rattle.definitions.proofs.Facts.{told-always}
 use Rattle.shapes.proofs.Sounds.{sound80}
 use Rattle.packing.proofs.Standing.{stands-pattern, class-pattern}
 use borrow.Author.Needs.{needs}
@@ -18,12 +21,17 @@ shape-requires c κs = search needs
 scale-of-requires : tie.Need-scale-of-requires
 scale-of-requires c κs = rw (c .shape .ensures) (sound80, stands-pattern x87 sound80 (words (c .before .before .args .xw) (c .before .before .args .x)) _ (c .before .of-pattern .ensures))
 
+denormal80-requires : tie.Need-denormal80-requires
+denormal80-requires c κs = search needs
+
 returns : tie.Need-returns
 unfolding scaleReport
 returns c =
-    let s = c .before .before .before in
-    rw (← class-pattern x87 sound80 (words (s .args .xw) (s .args .x)) _ (c .before .before .of-pattern .ensures))
-    (rw (c .before .shape .ensures, toZ-ofZ w32 (s .args .power) (s .fits .power)) at (c .scale-of .ensures))
+    let k = c .before in
+    let s = k .before .before .before in
+    (rw (← class-pattern x87 sound80 (words (s .args .xw) (s .args .x)) _ (k .before .before .of-pattern .ensures))
+    (rw (k .before .shape .ensures, toZ-ofZ w32 (s .args .power) (s .fits .power)) at (k .scale-of .ensures)),
+    c .denormal80 .ensures ∙ sym (told-always x87 Truncated (words (s .args .xw) (s .args .x)) 0 (s .args .power) .2))
 
 pub scale80-spec : {M : Type 1} → statement M
-scale80-spec = tie.close (tie.spec of-pattern-requires shape-requires scale-of-requires returns)
+scale80-spec = tie.close (tie.spec of-pattern-requires shape-requires scale-of-requires denormal80-requires returns)

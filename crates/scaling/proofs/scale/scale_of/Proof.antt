@@ -1,5 +1,5 @@
 -- `scale_of` meets its contract: what is refused, what stays, and a value scaled and packed. Assumes nothing.
-use mathlib.Core.Path.{_≡_, refl, subst}
+use mathlib.Core.Path.{_≡_, refl, _∙_, subst}
 use mathlib.Core.List.{[], _∷_}
 use denote.Enum.Declared.{tagOf}
 use types.Run.{OneOf, miss}
@@ -21,6 +21,7 @@ use Rattle.powers.specs.Scaled.{scaledOf}
 use Rattle.packing.proofs.Standing.{stands-unpacked}
 use Rattle.packing.proofs.Places.{Placed, placed}
 use Rattle.powers.proofs.Scaled.{scaled-stands, scaled-report}
+use Rattle.scaling.proofs.Refusals.{scale-refused}
 use borrow.Author.Needs.{needs}
 use Rattle.scaling.proofs.scale.scale_of.Statement.{statement}
 use Rattle.scaling.proofs.scale.scale_of.Tie as tie
@@ -33,7 +34,7 @@ stays : (f : Format) (k : ℤ) (o : Operand) → OneOf (2 ∷ 3 ∷ []) (tagOf t
     → record { number = 0; value = patternOf f (classIn (f .smallest) o); says = Exact } ≡ scaleOf f (classIn (f .smallest) o) k
 unfolding scaleOf scaleClass classIn first
 stays f k Unsupported h = absurd (miss (2 ∷ 3 ∷ []) 0 tt h)
-stays f k Nan h = absurd (miss (2 ∷ 3 ∷ []) 1 tt h)
+stays f k (Nan n s) h = absurd (miss (2 ∷ 3 ∷ []) 1 tt h)
 stays f k (Infinite n) h = refl
 stays f k (Zero n) h = refl
 stays f k (Finite u) h = absurd (miss (2 ∷ 3 ∷ []) 4 tt h)
@@ -59,8 +60,14 @@ scaled c =
 enum-told : tie.Need-enum-told
 enum-told c = search needs
 
+refused-requires : tie.Need-refused-requires
+refused-requires c κs = search needs
+
 enum-told-2 : tie.Need-enum-told-2
 enum-told-2 c = search needs
+
+refused-requires-2 : tie.Need-refused-requires-2
+refused-requires-2 c κs = search needs
 
 pack-requires : tie.Need-pack-requires
 pack-requires c κs = search needs
@@ -77,12 +84,12 @@ pack-requires-2 c κs =
     (s .pre .0, scaled-stands (f s) (s .pre .0) _ _ (value (c .before)) (s .args .power) (c .scale-value .result) (scaled c))
 
 returns : tie.Need-returns
-unfolding scaleMeaning scaleOf scaleClass classIn first
-returns c = rw (c .enum-told .given .1)
+unfolding classIn first
+returns c = let s = c .before .before .before in c .refused .ensures ∙ scale-refused (f s) (s .args .power) _ 2 refl (rw (c .before .enum-told .given .1))
 
 returns-2 : tie.Need-returns-2
-unfolding scaleMeaning scaleOf scaleClass classIn first
-returns-2 c = rw (c .enum-told2 .given .1)
+unfolding classIn first
+returns-2 c = let s = c .before .before .before in c .refused2 .ensures ∙ scale-refused (f s) (s .args .power) _ 3 refl (rw (c .before .enum-told2 .given .1))
 
 returns-3 : tie.Need-returns-3
 unfolding scaleMeaning
@@ -100,7 +107,9 @@ scale-of-spec =
     tie.close
     (tie.spec
     enum-told
+    refused-requires
     enum-told-2
+    refused-requires-2
     pack-requires
     enum-known-x
     scale-value-requires
