@@ -33,8 +33,8 @@ pages = .
 placed = $(out)/prefix
 pc = zukemoriha.pc.in
 
-exports = export_remainder export_remquo export_steps export_scaling export_fold export_stems
-programs = host untouched chains fold half fprem libm ldexp stems stem_writer modes
+exports = export_remainder export_remquo export_steps export_scaling export_fold export_facts export_stems
+programs = host untouched nans chains fold half fprem libm ldexp stems stem_writer modes
 sanitized = sanitized-stems sanitized-stem_writer
 version = $(shell sed -n 's/^\#define ZK_VERSION "\(.*\)"/\1/p' include/zukemoriha.h)
 warnings = -Wall -Wextra -pedantic

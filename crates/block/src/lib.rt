@@ -52,6 +52,6 @@ pub fn write(block: &mut [u8], answer: StepsAnswer, unfinished: u8) -> u8
             fill_block(block, value, unfinished, quotient, steps);
             unfinished
         }
-        StepsAnswer::Refused(why) => number_of(why),
+        StepsAnswer::Refused { why, .. } => number_of(why),
     }
 }

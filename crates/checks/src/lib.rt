@@ -50,7 +50,7 @@ fn is_unsupported(x: Operand) -> bool
 pub fn is_nan(x: Operand) -> bool
     ensures { λ r. ⌜ r ≡ nanOperand x ⌝ }
 {
-    if let Operand::Nan { negative: _, stored: _ } = x {
+    if let Operand::Nan { .. } = x {
         true
     } else {
         false

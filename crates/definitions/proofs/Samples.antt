@@ -1,6 +1,6 @@
 -- Roundings, lists, blocks and lines, computed from the definitions. Assumes nothing.
 use mathlib.Core.Path.{_≡_, refl}
-use mathlib.Core.Bool.{cond}
+use mathlib.Core.Bool.{true, false, cond}
 use mathlib.Core.List.{List, [], _∷_, map}
 use Prim.Native.Nat.{ℕ, zero, suc, _+_, _*_, _^_}
 use native.Mathlib.Omega.{arith}
@@ -33,7 +33,7 @@ use Rattle.definitions.specs.declared.SplitAnswer.the-variants as split
 use Rattle.definitions.specs.Answers.{refusalNumber, remainderMeaning, signedMeaning, stepsMeaning, stepMeaning, runMeaning, scaleMeaning, splitMeaning}
 use Rattle.definitions.specs.Block.{kindOf, blockAfter}
 use Rattle.definitions.specs.Line.{isHex, digitOf, lineFor, outputFor}
-use Rattle.definitions.specs.Exports.{after, significandIn, wordIn, saysNumber}
+use Rattle.definitions.specs.Exports.{after, significandIn, wordIn, saysNumber, flagNumber}
 use Rattle.definitions.specs.Samples.{text}
 
 -- ---- [6.1, 6.4] n rounded by so many places: no place, each side of a half and the half itself at an even and at an odd quotient, the
@@ -153,13 +153,14 @@ pub block-left : blockAfter zeros (stepReport nothing Truncated 31 0x40408000000
 unfolding blockAfter stepReport size gap classOf patternOf magnitude first finish step
 block-left = refl
 
--- ---- [7.2, 7.6, 9.2, 6.4] what crosses to C: two words, what scaling says, and by its number whether an answer is written
+-- ---- [7.2, 7.6, 9.2, 6.4, 9.7] what crosses to C: two words, what scaling says, a fact, and by its number whether an answer is written
 pub crossing : (words 0xC0DF 0x8123456789ABCDEF ≡ 0xC0DF8123456789ABCDEF)
     × (significandIn 0xC0DF8123456789ABCDEF ≡ 0x8123456789ABCDEF) × (wordIn 0xC0DF8123456789ABCDEF ≡ 0xC0DF)
     × (map saysNumber (Exact ∷ Up ∷ Down ∷ []) ≡ 0 ∷ 1 ∷ 2 ∷ [])
+    × (map flagNumber (true ∷ false ∷ []) ≡ 1 ∷ 0 ∷ [])
     × (map {B = ℕ} (λ n. after n 1 0) (0 ∷ 1 ∷ 2 ∷ 3 ∷ 4 ∷ 5 ∷ 6 ∷ 7 ∷ 8 ∷ 9 ∷ 10 ∷ 11 ∷ 12 ∷ 13 ∷ 14 ∷ 15 ∷ 16 ∷ 255 ∷ [])
     ≡ 1 ∷ 1 ∷ 0 ∷ 0 ∷ 0 ∷ 0 ∷ 0 ∷ 1 ∷ 0 ∷ 0 ∷ 0 ∷ 0 ∷ 0 ∷ 0 ∷ 0 ∷ 0 ∷ 0 ∷ 0 ∷ [])
-crossing = (refl, refl, refl, refl, refl)
+crossing = (refl, refl, refl, refl, refl, refl)
 
 -- [9.5] kinds
 pub kinds : (kindOf 0 ≡ Truncated) × ((k : ℕ) → kindOf (suc k) ≡ Nearest)

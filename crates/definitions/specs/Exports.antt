@@ -1,6 +1,6 @@
 -- What C hands over and gets back as numbers, and what lent memory holds after a call. Definitions only.
 use Prim.Native.Nat.{ℕ, _/_, _%_, _^_}
-use mathlib.Core.Bool.{cond}
+use mathlib.Core.Bool.{Bool, cond}
 use mathlib.Core.List.{List}
 use lib.ListN.{length}
 use Rattle.definitions.specs.Numbers.{accepted}
@@ -28,3 +28,7 @@ abbrev pub saysNumber : Rounding → ℕ
 saysNumber Exact = 0
 saysNumber Up = 1
 saysNumber Down = 2
+
+-- a fact, as a number
+abbrev pub flagNumber : Bool → ℕ
+flagNumber b = cond b 1 0

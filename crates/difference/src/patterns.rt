@@ -1,31 +1,32 @@
-// The difference of two operands, and of two patterns.
+// The difference of two operands, and of two patterns. Where there is none it is the house NaN.
 use crate::values::opposite;
 use crate::values::subtract_values;
 use formats::binary::Binary64;
 use operands::Operand;
 use operands::Unpacked;
+use packing::pack::house_operand;
 use packing::pack::pack;
 use shapes::shape::Shape;
 ghost use mathlib.Core.Path.{_≡_};
 ghost use Prim.Native.Nat.{_≤_};
-ghost use lib.IntN.{ℤ};
 ghost use Rattle.definitions.specs.Class.{infinite, finite};
-ghost use Rattle.definitions.specs.Format.{Format, binary64};
+ghost use Rattle.definitions.specs.Format.{binary64};
 ghost use Rattle.definitions.specs.Difference.{differenceClass, difference};
 ghost use Rattle.operands.specs.Operand.{operandOf, classIn, valueIn};
 ghost use Rattle.operands.specs.declared.Operand.the-variants.{Finite};
 ghost use Rattle.shapes.specs.Shape.{formatOf, Sound};
 ghost use Rattle.packing.specs.Stands.{Stands, StandsValue};
 
-fn from_infinite(negative: bool, y: Operand) -> Operand
-    ensures { λ r. ⌜ ((f : Format) (s : ℤ) → r ≡ operandOf s (differenceClass f (infinite negative) (classIn s y))) ⌝ }
+fn from_infinite(shape: Shape, negative: bool, y: Operand) -> Operand
+    requires { ⌜ Sound (formatOf shape) ⌝ }
+    ensures { λ r. ⌜ r ≡ operandOf (shape .smallest) (differenceClass (formatOf shape) (infinite negative) (classIn (shape .smallest) y)) ⌝ }
 {
     match y {
-        Operand::Unsupported => Operand::Nan,
-        Operand::Nan => Operand::Nan,
+        Operand::Unsupported => house_operand(shape),
+        Operand::Nan { .. } => house_operand(shape),
         Operand::Infinite(other) => {
             if negative == other {
-                return Operand::Nan;
+                return house_operand(shape);
             }
             Operand::Infinite(negative)
         }
@@ -39,8 +40,8 @@ fn from_zero(shape: Shape, negative: bool, y: Operand) -> Operand
     ensures { λ r. ⌜ r ≡ operandOf (shape .smallest) (differenceClass (formatOf shape) (finite (record { negative = negative; count = 0 })) (classIn (shape .smallest) y)) ⌝ }
 {
     match y {
-        Operand::Unsupported => Operand::Nan,
-        Operand::Nan => Operand::Nan,
+        Operand::Unsupported => house_operand(shape),
+        Operand::Nan { .. } => house_operand(shape),
         Operand::Infinite(other) => Operand::Infinite(!other),
         Operand::Zero(other) => {
             if negative == other {
@@ -57,8 +58,8 @@ fn from_value(shape: Shape, x: Unpacked, y: Operand) -> Operand
     ensures { λ r. ⌜ r ≡ operandOf (shape .smallest) (differenceClass (formatOf shape) (finite (valueIn (shape .smallest) x)) (classIn (shape .smallest) y)) ⌝ }
 {
     match y {
-        Operand::Unsupported => Operand::Nan,
-        Operand::Nan => Operand::Nan,
+        Operand::Unsupported => house_operand(shape),
+        Operand::Nan { .. } => house_operand(shape),
         Operand::Infinite(other) => Operand::Infinite(!other),
         Operand::Zero(_) => Operand::Finite(x),
         Operand::Finite(value) => subtract_values(shape, x, value),
@@ -71,9 +72,9 @@ pub fn subtract_operands(shape: Shape, x: Operand, y: Operand) -> Operand
     ensures { λ r. ⌜ r ≡ operandOf (shape .smallest) (differenceClass (formatOf shape) (classIn (shape .smallest) x) (classIn (shape .smallest) y)) ⌝ }
 {
     match x {
-        Operand::Unsupported => Operand::Nan,
-        Operand::Nan => Operand::Nan,
-        Operand::Infinite(negative) => from_infinite(negative, y),
+        Operand::Unsupported => house_operand(shape),
+        Operand::Nan { .. } => house_operand(shape),
+        Operand::Infinite(negative) => from_infinite(shape, negative, y),
         Operand::Zero(negative) => from_zero(shape, negative, y),
         Operand::Finite(value) => from_value(shape, value, y),
     }

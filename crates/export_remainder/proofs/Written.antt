@@ -33,7 +33,7 @@ module _ (f : Format) (r : Regular f) (κ : Kind) (x y : ℕ) (a : RemainderAnsw
         → (0 ≡ remainder f κ x y .number) × ((v .low ≡ significandIn (remainder f κ x y .value)) × ((v .high ≡ wordIn (remainder f κ x y .value)) × (q ≡ remainder f κ x y .quotient)))
     finished80 h = rw meant (refl, (significand-of v h, (word-of v h, refl)))
 
-  module _ (w : Refusal) (n : ℕ) (e : a ≡ Refused w) (is : n ≡ refusalNumber w) where
+  module _ (w : Refusal) (u : Pattern) (n : ℕ) (e : a ≡ Refused w u) (is : n ≡ refusalNumber w) where
     number-is : n ≡ remainder f κ x y .number
     unfolding remainderMeaning
     number-is = is ∙ ap (λ (t : Remainder). t .number) (ap remainderMeaning (sym e) ∙ told)

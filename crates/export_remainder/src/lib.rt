@@ -18,7 +18,8 @@ pub extern "C" fn zk_rem16(x: u16, y: u16, kind: u32, value: &mut u16, quotient:
     ensures value { λ r. ⌜ now (value .exit) ≡ after r (remainder binary16 (kindOf kind) x y .value) (now (value .entry)) ⌝ }
     ensures quotient { λ r. ⌜ now (quotient .exit) ≡ after r (remainder binary16 (kindOf kind) x y .quotient) (now (quotient .entry)) ⌝ }
 {
-    match remainder16(x, y, kind_of(kind)) {
+    let answer = remainder16(x, y, kind_of(kind)).answer;
+    match answer {
         RemainderAnswer::Finished {
             value: v,
             quotient: q,
@@ -27,7 +28,7 @@ pub extern "C" fn zk_rem16(x: u16, y: u16, kind: u32, value: &mut u16, quotient:
             *quotient = q;
             0
         }
-        RemainderAnswer::Refused(why) => number_of(why),
+        RemainderAnswer::Refused { why, .. } => number_of(why),
     }
 }
 
@@ -37,7 +38,8 @@ pub extern "C" fn zk_rem32(x: u32, y: u32, kind: u32, value: &mut u32, quotient:
     ensures value { λ r. ⌜ now (value .exit) ≡ after r (remainder binary32 (kindOf kind) x y .value) (now (value .entry)) ⌝ }
     ensures quotient { λ r. ⌜ now (quotient .exit) ≡ after r (remainder binary32 (kindOf kind) x y .quotient) (now (quotient .entry)) ⌝ }
 {
-    match remainder32(x, y, kind_of(kind)) {
+    let answer = remainder32(x, y, kind_of(kind)).answer;
+    match answer {
         RemainderAnswer::Finished {
             value: v,
             quotient: q,
@@ -46,7 +48,7 @@ pub extern "C" fn zk_rem32(x: u32, y: u32, kind: u32, value: &mut u32, quotient:
             *quotient = q;
             0
         }
-        RemainderAnswer::Refused(why) => number_of(why),
+        RemainderAnswer::Refused { why, .. } => number_of(why),
     }
 }
 
@@ -56,7 +58,8 @@ pub extern "C" fn zk_rem64(x: u64, y: u64, kind: u32, value: &mut u64, quotient:
     ensures value { λ r. ⌜ now (value .exit) ≡ after r (remainder binary64 (kindOf kind) x y .value) (now (value .entry)) ⌝ }
     ensures quotient { λ r. ⌜ now (quotient .exit) ≡ after r (remainder binary64 (kindOf kind) x y .quotient) (now (quotient .entry)) ⌝ }
 {
-    match remainder64(x, y, kind_of(kind)) {
+    let answer = remainder64(x, y, kind_of(kind)).answer;
+    match answer {
         RemainderAnswer::Finished {
             value: v,
             quotient: q,
@@ -65,7 +68,7 @@ pub extern "C" fn zk_rem64(x: u64, y: u64, kind: u32, value: &mut u64, quotient:
             *quotient = q;
             0
         }
-        RemainderAnswer::Refused(why) => number_of(why),
+        RemainderAnswer::Refused { why, .. } => number_of(why),
     }
 }
 
@@ -85,7 +88,8 @@ pub extern "C" fn zk_rem80(
     ensures valuew { λ r. ⌜ now (valuew .exit) ≡ after r (wordIn (remainder x87 (kindOf kind) (words xw x) (words yw y) .value)) (now (valuew .entry)) ⌝ }
     ensures quotient { λ r. ⌜ now (quotient .exit) ≡ after r (remainder x87 (kindOf kind) (words xw x) (words yw y) .quotient) (now (quotient .entry)) ⌝ }
 {
-    match remainder80(x, xw, y, yw, kind_of(kind)) {
+    let answer = remainder80(x, xw, y, yw, kind_of(kind)).answer;
+    match answer {
         RemainderAnswer::Finished {
             value: v,
             quotient: q,
@@ -95,6 +99,6 @@ pub extern "C" fn zk_rem80(
             *quotient = q;
             0
         }
-        RemainderAnswer::Refused(why) => number_of(why),
+        RemainderAnswer::Refused { why, .. } => number_of(why),
     }
 }

@@ -38,7 +38,7 @@ module _ (f : Format) (r : Regular f) (κ : Kind) (x y : ℕ) (a : SignedAnswer)
         × ((v .low ≡ significandIn (signedRemainder f κ x y .value)) × ((v .high ≡ wordIn (signedRemainder f κ x y .value)) × (z ≡ signedRemainder f κ x y .quotient)))
     finished80 z held h = rw meant (refl, (significand-of v h, (word-of v h, held)))
 
-  module _ (w : Refusal) (n : ℕ) (e : a ≡ Refused w) (is : n ≡ refusalNumber w) where
+  module _ (w : Refusal) (u : Pattern) (n : ℕ) (e : a ≡ Refused w u) (is : n ≡ refusalNumber w) where
     number-is : n ≡ signedRemainder f κ x y .number
     unfolding signedMeaning
     number-is = is ∙ ap (λ (t : SignedRemainder). t .number) (ap signedMeaning (sym e) ∙ told)

@@ -18,7 +18,8 @@ pub extern "C" fn zk_remquo16(x: u16, y: u16, kind: u32, value: &mut u16, quotie
     ensures value { λ r. ⌜ now (value .exit) ≡ after r (signedRemainder binary16 (kindOf kind) x y .value) (now (value .entry)) ⌝ }
     ensures quotient { λ r. ⌜ now (quotient .exit) ≡ after r (signedRemainder binary16 (kindOf kind) x y .quotient) (now (quotient .entry)) ⌝ }
 {
-    match remquo16(x, y, kind_of(kind)) {
+    let answer = remquo16(x, y, kind_of(kind)).answer;
+    match answer {
         SignedAnswer::Finished {
             value: v,
             quotient: q,
@@ -27,7 +28,7 @@ pub extern "C" fn zk_remquo16(x: u16, y: u16, kind: u32, value: &mut u16, quotie
             *quotient = q;
             0
         }
-        SignedAnswer::Refused(why) => number_of(why),
+        SignedAnswer::Refused { why, .. } => number_of(why),
     }
 }
 
@@ -37,7 +38,8 @@ pub extern "C" fn zk_remquo32(x: u32, y: u32, kind: u32, value: &mut u32, quotie
     ensures value { λ r. ⌜ now (value .exit) ≡ after r (signedRemainder binary32 (kindOf kind) x y .value) (now (value .entry)) ⌝ }
     ensures quotient { λ r. ⌜ now (quotient .exit) ≡ after r (signedRemainder binary32 (kindOf kind) x y .quotient) (now (quotient .entry)) ⌝ }
 {
-    match remquo32(x, y, kind_of(kind)) {
+    let answer = remquo32(x, y, kind_of(kind)).answer;
+    match answer {
         SignedAnswer::Finished {
             value: v,
             quotient: q,
@@ -46,7 +48,7 @@ pub extern "C" fn zk_remquo32(x: u32, y: u32, kind: u32, value: &mut u32, quotie
             *quotient = q;
             0
         }
-        SignedAnswer::Refused(why) => number_of(why),
+        SignedAnswer::Refused { why, .. } => number_of(why),
     }
 }
 
@@ -56,7 +58,8 @@ pub extern "C" fn zk_remquo64(x: u64, y: u64, kind: u32, value: &mut u64, quotie
     ensures value { λ r. ⌜ now (value .exit) ≡ after r (signedRemainder binary64 (kindOf kind) x y .value) (now (value .entry)) ⌝ }
     ensures quotient { λ r. ⌜ now (quotient .exit) ≡ after r (signedRemainder binary64 (kindOf kind) x y .quotient) (now (quotient .entry)) ⌝ }
 {
-    match remquo64(x, y, kind_of(kind)) {
+    let answer = remquo64(x, y, kind_of(kind)).answer;
+    match answer {
         SignedAnswer::Finished {
             value: v,
             quotient: q,
@@ -65,7 +68,7 @@ pub extern "C" fn zk_remquo64(x: u64, y: u64, kind: u32, value: &mut u64, quotie
             *quotient = q;
             0
         }
-        SignedAnswer::Refused(why) => number_of(why),
+        SignedAnswer::Refused { why, .. } => number_of(why),
     }
 }
 
@@ -85,7 +88,8 @@ pub extern "C" fn zk_remquo80(
     ensures valuew { λ r. ⌜ now (valuew .exit) ≡ after r (wordIn (signedRemainder x87 (kindOf kind) (words xw x) (words yw y) .value)) (now (valuew .entry)) ⌝ }
     ensures quotient { λ r. ⌜ now (quotient .exit) ≡ after r (signedRemainder x87 (kindOf kind) (words xw x) (words yw y) .quotient) (now (quotient .entry)) ⌝ }
 {
-    match remquo80(x, xw, y, yw, kind_of(kind)) {
+    let answer = remquo80(x, xw, y, yw, kind_of(kind)).answer;
+    match answer {
         SignedAnswer::Finished {
             value: v,
             quotient: q,
@@ -95,6 +99,6 @@ pub extern "C" fn zk_remquo80(
             *quotient = q;
             0
         }
-        SignedAnswer::Refused(why) => number_of(why),
+        SignedAnswer::Refused { why, .. } => number_of(why),
     }
 }

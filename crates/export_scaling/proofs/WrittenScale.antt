@@ -36,7 +36,7 @@ module _ (f : Format) (r : Regular f) (x : ℕ) (k : ℤ) (a : ScaleAnswer) (tol
         → (0 ≡ R .number) × ((v .low ≡ significandIn (R .value)) × ((v .high ≡ wordIn (R .value)) × (n ≡ saysNumber (R .says))))
     scaled80 n i h = rw (← report) (refl, (significand-of v h, (word-of v h, i)))
 
-  module _ (w : Refusal) (n : ℕ) (is : a ≡ scale.Refused w) (i : n ≡ refusalNumber w) where
+  module _ (w : Refusal) (u : Pattern) (n : ℕ) (is : a ≡ scale.Refused w u) (i : n ≡ refusalNumber w) where
     number-is : n ≡ R .number
     unfolding scaleMeaning
     number-is = i ∙ ap (λ (t : ScaleReport). t .number) (ap scaleMeaning (sym is) ∙ told)

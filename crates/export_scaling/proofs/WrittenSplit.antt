@@ -35,7 +35,7 @@ module _ (f : Format) (r : Regular f) (x : ℕ) (a : SplitAnswer) (told : splitM
         → (0 ≡ R .number) × ((s .low ≡ significandIn (R .significand)) × ((s .high ≡ wordIn (R .significand)) × (i ≡ R .exponent)))
     parted80 i j h = rw (← report) (refl, (significand-of s h, (word-of s h, j)))
 
-  module _ (w : Refusal) (n : ℕ) (is : a ≡ split.Refused w) (i : n ≡ refusalNumber w) where
+  module _ (w : Refusal) (u : Pattern) (n : ℕ) (is : a ≡ split.Refused w u) (i : n ≡ refusalNumber w) where
     number-is : n ≡ R .number
     unfolding splitMeaning
     number-is = i ∙ ap (λ (t : SplitReport). t .number) (ap splitMeaning (sym is) ∙ told)

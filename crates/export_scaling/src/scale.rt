@@ -17,13 +17,14 @@ pub extern "C" fn zk_scale16(x: u16, power: i32, value: &mut u16, says: &mut u8)
     ensures value { λ r. ⌜ now (value .exit) ≡ after r (scaleReport binary16 x power .value) (now (value .entry)) ⌝ }
     ensures says { λ r. ⌜ now (says .exit) ≡ after r (saysNumber (scaleReport binary16 x power .says)) (now (says .entry)) ⌝ }
 {
-    match scale16(x, power) {
+    let answer = scale16(x, power).answer;
+    match answer {
         ScaleAnswer::Scaled { value: v, says: s } => {
             *value = v.low as u16;
             *says = says_number(s);
             0
         }
-        ScaleAnswer::Refused(why) => number_of(why),
+        ScaleAnswer::Refused { why, .. } => number_of(why),
     }
 }
 
@@ -33,13 +34,14 @@ pub extern "C" fn zk_scale32(x: u32, power: i32, value: &mut u32, says: &mut u8)
     ensures value { λ r. ⌜ now (value .exit) ≡ after r (scaleReport binary32 x power .value) (now (value .entry)) ⌝ }
     ensures says { λ r. ⌜ now (says .exit) ≡ after r (saysNumber (scaleReport binary32 x power .says)) (now (says .entry)) ⌝ }
 {
-    match scale32(x, power) {
+    let answer = scale32(x, power).answer;
+    match answer {
         ScaleAnswer::Scaled { value: v, says: s } => {
             *value = v.low as u32;
             *says = says_number(s);
             0
         }
-        ScaleAnswer::Refused(why) => number_of(why),
+        ScaleAnswer::Refused { why, .. } => number_of(why),
     }
 }
 
@@ -49,13 +51,14 @@ pub extern "C" fn zk_scale64(x: u64, power: i32, value: &mut u64, says: &mut u8)
     ensures value { λ r. ⌜ now (value .exit) ≡ after r (scaleReport binary64 x power .value) (now (value .entry)) ⌝ }
     ensures says { λ r. ⌜ now (says .exit) ≡ after r (saysNumber (scaleReport binary64 x power .says)) (now (says .entry)) ⌝ }
 {
-    match scale64(x, power) {
+    let answer = scale64(x, power).answer;
+    match answer {
         ScaleAnswer::Scaled { value: v, says: s } => {
             *value = v.low;
             *says = says_number(s);
             0
         }
-        ScaleAnswer::Refused(why) => number_of(why),
+        ScaleAnswer::Refused { why, .. } => number_of(why),
     }
 }
 
@@ -73,13 +76,14 @@ pub extern "C" fn zk_scale80(
     ensures valuew { λ r. ⌜ now (valuew .exit) ≡ after r (wordIn (scaleReport x87 (words xw x) power .value)) (now (valuew .entry)) ⌝ }
     ensures says { λ r. ⌜ now (says .exit) ≡ after r (saysNumber (scaleReport x87 (words xw x) power .says)) (now (says .entry)) ⌝ }
 {
-    match scale80(x, xw, power) {
+    let answer = scale80(x, xw, power).answer;
+    match answer {
         ScaleAnswer::Scaled { value: v, says: s } => {
             *value = v.low;
             *valuew = v.high as u16;
             *says = says_number(s);
             0
         }
-        ScaleAnswer::Refused(why) => number_of(why),
+        ScaleAnswer::Refused { why, .. } => number_of(why),
     }
 }

@@ -16,7 +16,8 @@ pub extern "C" fn zk_split16(x: u16, significand: &mut u16, exponent: &mut i32) 
     ensures significand { λ r. ⌜ now (significand .exit) ≡ after r (splitReport binary16 x .significand) (now (significand .entry)) ⌝ }
     ensures exponent { λ r. ⌜ now (exponent .exit) ≡ after r (splitReport binary16 x .exponent) (now (exponent .entry)) ⌝ }
 {
-    match split16(x) {
+    let answer = split16(x).answer;
+    match answer {
         SplitAnswer::Parts {
             significand: s,
             exponent: e,
@@ -25,7 +26,7 @@ pub extern "C" fn zk_split16(x: u16, significand: &mut u16, exponent: &mut i32) 
             *exponent = e;
             0
         }
-        SplitAnswer::Refused(why) => number_of(why),
+        SplitAnswer::Refused { why, .. } => number_of(why),
     }
 }
 
@@ -35,7 +36,8 @@ pub extern "C" fn zk_split32(x: u32, significand: &mut u32, exponent: &mut i32) 
     ensures significand { λ r. ⌜ now (significand .exit) ≡ after r (splitReport binary32 x .significand) (now (significand .entry)) ⌝ }
     ensures exponent { λ r. ⌜ now (exponent .exit) ≡ after r (splitReport binary32 x .exponent) (now (exponent .entry)) ⌝ }
 {
-    match split32(x) {
+    let answer = split32(x).answer;
+    match answer {
         SplitAnswer::Parts {
             significand: s,
             exponent: e,
@@ -44,7 +46,7 @@ pub extern "C" fn zk_split32(x: u32, significand: &mut u32, exponent: &mut i32) 
             *exponent = e;
             0
         }
-        SplitAnswer::Refused(why) => number_of(why),
+        SplitAnswer::Refused { why, .. } => number_of(why),
     }
 }
 
@@ -54,7 +56,8 @@ pub extern "C" fn zk_split64(x: u64, significand: &mut u64, exponent: &mut i32) 
     ensures significand { λ r. ⌜ now (significand .exit) ≡ after r (splitReport binary64 x .significand) (now (significand .entry)) ⌝ }
     ensures exponent { λ r. ⌜ now (exponent .exit) ≡ after r (splitReport binary64 x .exponent) (now (exponent .entry)) ⌝ }
 {
-    match split64(x) {
+    let answer = split64(x).answer;
+    match answer {
         SplitAnswer::Parts {
             significand: s,
             exponent: e,
@@ -63,7 +66,7 @@ pub extern "C" fn zk_split64(x: u64, significand: &mut u64, exponent: &mut i32) 
             *exponent = e;
             0
         }
-        SplitAnswer::Refused(why) => number_of(why),
+        SplitAnswer::Refused { why, .. } => number_of(why),
     }
 }
 
@@ -80,7 +83,8 @@ pub extern "C" fn zk_split80(
     ensures significandw { λ r. ⌜ now (significandw .exit) ≡ after r (wordIn (splitReport x87 (words xw x) .significand)) (now (significandw .entry)) ⌝ }
     ensures exponent { λ r. ⌜ now (exponent .exit) ≡ after r (splitReport x87 (words xw x) .exponent) (now (exponent .entry)) ⌝ }
 {
-    match split80(x, xw) {
+    let answer = split80(x, xw).answer;
+    match answer {
         SplitAnswer::Parts {
             significand: s,
             exponent: e,
@@ -90,6 +94,6 @@ pub extern "C" fn zk_split80(
             *exponent = e;
             0
         }
-        SplitAnswer::Refused(why) => number_of(why),
+        SplitAnswer::Refused { why, .. } => number_of(why),
     }
 }

@@ -34,7 +34,8 @@ pub extern "C" fn zk_step80(
     if block.len() != BLOCK_LENGTH {
         return number_of(Refusal::BadLength);
     }
-    write(block, step80(x, xw, y, yw, size, kind_of(kind)), PARTIAL)
+    let answer = step80(x, xw, y, yw, size, kind_of(kind)).answer;
+    write(block, answer, PARTIAL)
 }
 
 #[no_mangle]
@@ -54,9 +55,6 @@ pub extern "C" fn zk_run80(
     if block.len() != BLOCK_LENGTH {
         return number_of(Refusal::BadLength);
     }
-    write(
-        block,
-        run80(x, xw, y, yw, size, kind_of(kind), budget),
-        SPENT,
-    )
+    let answer = run80(x, xw, y, yw, size, kind_of(kind), budget).answer;
+    write(block, answer, SPENT)
 }

@@ -7,6 +7,7 @@ use lib.Ieee as Ieee
 use lib.Ieee.{Float, toBits}
 use Rattle.definitions.specs.Class.{Class, unsupported, nan, infinite, finite}
 use Rattle.definitions.specs.Format.{binary64, classOf}
+use Rattle.definitions.specs.Numbers.{isNan, isInfinite}
 use Rattle.definitions.specs.Fold.{bad}
 use Rattle.definitions.specs.Stem as definition
 use Rattle.definitions.specs.Stem.{turn, roller, gaugeOf, isPositive, good, goodFields}
@@ -17,14 +18,14 @@ use Rattle.operands.specs.declared.Operand.the-variants.{Unsupported, Nan, Infi
 use Rattle.operands.proofs.Lead.{by-count}
 use Rattle.checks.specs.Verdict.{nanOperand, infiniteOperand}
 use Rattle.checks.proofs.Judged.{nan-told, infinite-told}
-use Rattle.floats.proofs.Passed.{class-passed}
+use Rattle.floats.proofs.Passed.{floated, class-passed}
 use Rattle.gauges.specs.declared.Gauge.{Gauge}
 use Rattle.gauges.specs.declared.Gauge.the-variants.{Turn, Roller}
 use Rattle.gauges.specs.Held.{gaugeHeld, gaugeBits}
 
 abbrev positiveOperand : Operand → Bool
 positiveOperand Unsupported = false
-positiveOperand Nan = false
+positiveOperand (Nan n s) = false
 positiveOperand (Infinite n) = false
 positiveOperand (Zero n) = false
 positiveOperand (Finite u) = not (u .negative)
@@ -45,7 +46,7 @@ neither-first false b e = absurd (subst T e tt)
 positive-told : (a : Class) → positiveOperand (operandOf (binary64 .smallest) a) ≡ isPositive a
 unfolding operandOf
 positive-told unsupported = refl
-positive-told nan = refl
+positive-told (nan n s) = refl
 positive-told (infinite n) = refl
 positive-told (finite v) =
     by-count (binary64 .smallest) v (λ (o : Operand). positiveOperand o ≡ isPositive (finite v))
@@ -59,10 +60,23 @@ module _ (b : ℕ) (o : Operand) (e : o ≡ operandOf (binary64 .smallest) (clas
   pub bad-is : nanOperand o || infiniteOperand o ≡ bad b
   bad-is = rw (e, nan-told (binary64 .smallest) (classOf binary64 b), infinite-told (binary64 .smallest) (classOf binary64 b))
 
+-- what a float keeps is as good
+positive-floated : (c : Class) → isPositive (floated c) ≡ isPositive c
+positive-floated unsupported = refl
+positive-floated (nan n s) = refl
+positive-floated (infinite n) = refl
+positive-floated (finite v) = refl
+
+bad-floated : (c : Class) → isNan (floated c) || isInfinite (floated c) ≡ isNan c || isInfinite c
+bad-floated unsupported = refl
+bad-floated (nan n s) = refl
+bad-floated (infinite n) = refl
+bad-floated (finite v) = refl
+
 pub good-held : (g : definition.Gauge) → good (gaugeBits (gaugeHeld g)) ≡ good g
 unfolding good
-good-held (turn p) = rw (class-passed p)
-good-held (roller p o) = rw (class-passed p, class-passed o)
+good-held (turn p) = rw (class-passed p) (positive-floated (classOf binary64 p))
+good-held (roller p o) = rw (class-passed p, class-passed o, positive-floated (classOf binary64 p), bad-floated (classOf binary64 o))
 
 -- a gauge of each case, as the code finds it
 pub turn-good : (g : Gauge) (p : Float) → g ≡ Turn p → good (gaugeBits g) ≡ isPositive (classOf binary64 (toBits Ieee.binary64 p))

@@ -14,12 +14,12 @@ use Rattle.digits.proofs.Tests.{clash, and-both}
 use Rattle.laws.proofs.Regular.{regular64}
 use Rattle.laws.proofs.RoundTrip.{written-read}
 use Rattle.laws.proofs.Ordinary.{hidden-ordinary}
-use Rattle.floats.proofs.Passed.{passed, passed-is}
+use Rattle.floats.proofs.Passed.{passed, floated, passed-is}
 use Rattle.gauges.specs.Held.{gaugeHeld, gaugeBits}
 
 positive-finite : (c : Class) → isPositive c ≡ true → isNan c || isInfinite c ≡ false
 positive-finite unsupported e = refl
-positive-finite nan e = clash (cc)
+positive-finite (nan n s) e = clash (cc)
 positive-finite (infinite n) e = clash (cc)
 positive-finite (finite v) e = refl
 
@@ -27,9 +27,9 @@ positive-finite (finite v) e = refl
 module _ (b : ℕ) (small : b < 2 ^ 64) where
   finite-passed : (c : Class) → classOf binary64 b ≡ c → isUnsupported c ≡ false → isNan c || isInfinite c ≡ false → passed b ≡ b
   finite-passed unsupported e s h = clash (cc)
-  finite-passed nan e s h = clash (cc)
+  finite-passed (nan n t) e s h = clash (cc)
   finite-passed (infinite n) e s h = clash (cc)
-  finite-passed (finite v) e s h = passed-is b ∙ ap (patternOf binary64) e ∙ written-read binary64 regular64 b v small (hidden-ordinary binary64 refl b) e
+  finite-passed (finite v) e s h = passed-is b ∙ ap (λ (c : Class). patternOf binary64 (floated c)) e ∙ written-read binary64 regular64 b v small (hidden-ordinary binary64 refl b) e
 
   pub passes : bad b ≡ false → passed b ≡ b
   passes h = finite-passed (classOf binary64 b) refl (supported binary64 refl b) h

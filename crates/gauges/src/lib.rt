@@ -43,7 +43,7 @@ fn is_positive(pattern: u64) -> bool
     let operand = Binary64::of_pattern(pattern).operand;
     match operand {
         Operand::Unsupported => false,
-        Operand::Nan => false,
+        Operand::Nan { .. } => false,
         Operand::Infinite(_) => false,
         Operand::Zero(_) => false,
         Operand::Finite(value) => !value.negative,

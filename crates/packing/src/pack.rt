@@ -11,9 +11,9 @@ use shapes::shape::leading_weight;
 use shapes::shape::top_field;
 ghost use mathlib.Core.Path.{_≡_};
 ghost use Prim.Native.Nat.{_+_, _*_, _≤_, _<_};
-ghost use Rattle.definitions.specs.Format.{patternOf, topField, fieldWeight, magnitude, houseNan, infinity, leading};
+ghost use Rattle.definitions.specs.Format.{patternOf, topField, fieldWeight, magnitude, houseNan, house, quiet, infinity, leading};
 ghost use Rattle.definitions.specs.Answers.{joined};
-ghost use Rattle.operands.specs.Operand.{classIn, valueIn};
+ghost use Rattle.operands.specs.Operand.{operandOf, classIn, valueIn};
 ghost use Rattle.operands.specs.declared.Operand.the-variants.{Finite};
 ghost use Rattle.shapes.specs.Shape.{formatOf, Sound};
 ghost use Rattle.packing.specs.Trimmed.{trimmedOf};
@@ -63,12 +63,31 @@ fn value_fields(shape: Shape, value: Unpacked) -> Fields
     }
 }
 
-// The stored significand of an infinity, and of the house NaN, which has the digit below the leading one too.
+// The stored significand of an infinity.
 fn infinity_stored(shape: Shape) -> u64
     requires { ⌜ Sound (formatOf shape) ⌝ }
     ensures { λ r. ⌜ r ≡ infinity (shape .layout) (leading (formatOf shape)) ⌝ }
 {
     leading_weight(shape) - hidden_part(shape)
+}
+
+// That of the house NaN, which has the digit below the leading one too.
+fn house_stored(shape: Shape) -> u64
+    requires { ⌜ Sound (formatOf shape) ⌝ }
+    ensures { λ r. ⌜ r ≡ quiet (shape .layout) (leading (formatOf shape)) ⌝ }
+{
+    infinity_stored(shape) + leading_weight(shape) / 2
+}
+
+// The house NaN, as an operand and as a pattern.
+pub fn house_operand(shape: Shape) -> Operand
+    requires { ⌜ Sound (formatOf shape) ⌝ }
+    ensures { λ r. ⌜ r ≡ operandOf (shape .smallest) (house (formatOf shape)) ⌝ }
+{
+    Operand::Nan {
+        negative: false,
+        stored: house_stored(shape),
+    }
 }
 
 pub fn house_nan(shape: Shape) -> Pattern
@@ -78,7 +97,7 @@ pub fn house_nan(shape: Shape) -> Pattern
     let fields = Fields {
         negative: false,
         field: top_field(shape),
-        stored: infinity_stored(shape) + leading_weight(shape) / 2,
+        stored: house_stored(shape),
     };
     pattern_of(shape, fields)
 }

@@ -15,7 +15,7 @@ use Rattle.definitions.specs.Remainder.{Remainder, remainder}
 use Rattle.definitions.specs.Fold.{bad}
 use Rattle.definitions.specs.Answers.{remainderMeaning, joined}
 use Rattle.definitions.specs.Difference.{difference}
-use Rattle.definitions.specs.Stem.{Gauge, turn, roller, periodOf, isPositive, shifted, foldReading}
+use Rattle.definitions.specs.Stem.{Gauge, turn, roller, periodOf, isPositive, good, shifted, foldReading}
 use Rattle.definitions.specs.declared.Kind.the-variants.{Truncated}
 use Rattle.definitions.specs.declared.Pattern.{Pattern}
 use Rattle.definitions.specs.declared.Refusal.{Refusal}
@@ -24,6 +24,7 @@ use Rattle.definitions.specs.declared.RemainderAnswer.the-variants.{Finished, R
 use Rattle.laws.proofs.Agrees.{agrees, agrees-bits}
 use Rattle.laws.proofs.Regular.{regular64}
 use Rattle.laws.proofs.Small.{remainder-small}
+use Rattle.laws.proofs.Folded.{good-positive}
 use Rattle.definitions.proofs.Refusals.{supported}
 use Rattle.checks.proofs.Judged.{refusal-some}
 use Rattle.gauges.specs.Held.{gaugeBits}
@@ -48,7 +49,7 @@ number-of x y = refl
 -- what a class above zero is not
 positive-tests : (b : Class) → isPositive b ≡ true → (isUnsupported b ≡ false) × (isNan b ≡ false) × (isZero b ≡ false)
 positive-tests unsupported p = clash (cc)
-positive-tests nan p = clash (cc)
+positive-tests (nan n s) p = clash (cc)
 positive-tests (infinite n) p = clash (cc)
 positive-tests (finite v) p = (refl, refl, not-true (eqb (v .count) 0) (and-both (not (v .negative)) (not (eqb (v .count) 0)) p .1))
 
@@ -56,7 +57,7 @@ positive-tests (finite v) p = (refl, refl, not-true (eqb (v .count) 0) (and-both
 only-bad : (a b : Class) → isPositive b ≡ true → isUnsupported a ≡ false → eqb (first (dividing a b)) 0 ≡ not (isNan a || isInfinite a)
 unfolding first
 only-bad unsupported b p s = clash (cc)
-only-bad nan b p s = rw (positive-tests b p .0)
+only-bad (nan n t) b p s = rw (positive-tests b p .0)
 only-bad (infinite n) b p s = rw (positive-tests b p .0, positive-tests b p .1)
 only-bad (finite v) b p s = rw (positive-tests b p .0, positive-tests b p .1, positive-tests b p .2)
 
@@ -79,23 +80,34 @@ module _ (p x : ℕ) (above : isPositive (classOf binary64 p) ≡ true) (a : Rem
       let z : not (bad x) ≡ true = sym number-tells ∙ ap (λ (r : Remainder). eqb (r .number) 0) is in
       rw (not-true (bad x) z, is) (omega arith)
 
-  pub refused : (w : Refusal) → a ≡ Refused w → houseNan binary64 ≡ left
+  pub refused : (w : Refusal) (v : Pattern) → a ≡ Refused w v → houseNan binary64 ≡ left
   unfolding remainderMeaning
-  refused w e =
+  refused w v e =
       let is = ap (λ (r : Remainder). r .number) (sym told ∙ ap remainderMeaning e) in
       let z : not (bad x) ≡ false = sym number-tells ∙ ap (λ (n : ℕ). eqb n 0) is ∙ refusal-some w in
       rw (not-false (bad x) z)
 
--- the fold of a reading, and that it passes a float
+first-of : (a b : Bool) → a || b ≡ false → a || false ≡ false
+first-of true b e = clash (cc)
+first-of false b e = refl
+
+-- the fold of a reading, and that by a good gauge it passes a float
 pub fold-is : (g : Gauge) (x : ℕ)
     → foldReading g x ≡ cond (bad (shifted g x)) (houseNan binary64) (remainder binary64 Truncated (shifted g x) (periodOf g) .value)
 unfolding foldReading
 fold-is g x = refl
 
-pub fold-passed : (g : Gauge) (x : ℕ) → passed (foldReading g x) ≡ foldReading g x
-fold-passed g x = rw (fold-is g x) (go (bad (shifted g x)))
+pub fold-passed : (g : Gauge) (x : ℕ) → good g ≡ true → passed (foldReading g x) ≡ foldReading g x
+fold-passed g x ok = rw (fold-is g x) (go (bad (shifted g x)) refl)
   where
-    go : (t : Bool) → passed (cond t (houseNan binary64) (remainder binary64 Truncated (shifted g x) (periodOf g) .value))
+    -- neither what is divided nor the period is a NaN
+    numbers : bad (shifted g x) ≡ false → isNan (classOf binary64 (shifted g x)) || isNan (classOf binary64 (periodOf g)) ≡ false
+    numbers b =
+        rw (positive-tests (classOf binary64 (periodOf g)) (good-positive g ok) .1)
+        (first-of (isNan (classOf binary64 (shifted g x))) (isInfinite (classOf binary64 (shifted g x))) b)
+
+    go : (t : Bool) → bad (shifted g x) ≡ t → passed (cond t (houseNan binary64) (remainder binary64 Truncated (shifted g x) (periodOf g) .value))
         ≡ cond t (houseNan binary64) (remainder binary64 Truncated (shifted g x) (periodOf g) .value)
-    go true = house-passed
-    go false = ap (toBits Ieee.binary64) (agrees Ieee.binary64 (shifted g x) (periodOf g)) ∙ sym (agrees-bits Ieee.binary64 (shifted g x) (periodOf g))
+    go true b = house-passed
+    go false b =
+        ap (toBits Ieee.binary64) (agrees Ieee.binary64 (shifted g x) (periodOf g)) ∙ sym (agrees-bits Ieee.binary64 (shifted g x) (periodOf g) (numbers b))

@@ -50,14 +50,15 @@ fn shifted(gauge: Gauge, reading: u64) -> u64
     }
 }
 
-// The remainder by a period above zero. What is not finite has none.
+// The remainder by a period above zero. What is not finite has none, and becomes the house NaN, whatever NaN it was.
 fn remainder_by(period: u64, x: u64) -> u64
     requires { ⌜ isPositive (classOf binary64 period) ≡ true ⌝ }
     ensures { λ r. ⌜ r ≡ cond (bad x) (houseNan binary64) (remainder binary64 Truncated x period .value) ⌝ }
 {
-    match remainder64(x, period, Kind::Truncated) {
+    let answer = remainder64(x, period, Kind::Truncated).answer;
+    match answer {
         RemainderAnswer::Finished { value, quotient: _ } => value.low,
-        RemainderAnswer::Refused(_) => Binary64::HOUSE_NAN,
+        RemainderAnswer::Refused { .. } => Binary64::HOUSE_NAN,
     }
 }
 

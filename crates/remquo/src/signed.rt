@@ -20,10 +20,7 @@ fn is_negative(x: Operand) -> bool
 {
     match x {
         Operand::Unsupported => false,
-        Operand::Nan {
-            negative: _,
-            stored: _,
-        } => false,
+        Operand::Nan { .. } => false,
         Operand::Infinite(negative) => negative,
         Operand::Zero(negative) => negative,
         Operand::Finite(value) => value.negative,

@@ -44,10 +44,7 @@ fn scale_of(shape: Shape, x: Operand, power: i32) -> ScaleAnswer
 {
     match x {
         Operand::Unsupported => refused(shape, x, Refusal::Unsupported),
-        Operand::Nan {
-            negative: _,
-            stored: _,
-        } => refused(shape, x, Refusal::Nan),
+        Operand::Nan { .. } => refused(shape, x, Refusal::Nan),
         Operand::Infinite(_) | Operand::Zero(_) => ScaleAnswer::Scaled {
             value: pack(shape, x),
             says: Rounding::Exact,

@@ -43,10 +43,7 @@ fn split_of(shape: Shape, x: Operand) -> SplitAnswer
 {
     match x {
         Operand::Unsupported => refused(shape, x, Refusal::Unsupported),
-        Operand::Nan {
-            negative: _,
-            stored: _,
-        } => refused(shape, x, Refusal::Nan),
+        Operand::Nan { .. } => refused(shape, x, Refusal::Nan),
         Operand::Infinite(_) => refused(shape, x, Refusal::Infinite),
         Operand::Zero(_) => refused(shape, x, Refusal::ZeroSplit),
         Operand::Finite(value) => {

@@ -92,7 +92,7 @@ limit-other bias o k = other-cases (λ (o : Operand). o ≡ limitOf bias o) refl
 -- leading zeros take few places from an exponent
 abbrev Near : Operand → Type 0
 Near Unsupported = Unit {0}
-Near Nan = Unit {0}
+Near (Nan n s) = Unit {0}
 Near (Infinite n) = Unit {0}
 Near (Zero n) = Unit {0}
 Near (Finite u) = mag (u .exponent) < 2 ^ 21

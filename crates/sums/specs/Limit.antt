@@ -9,7 +9,7 @@ use Rattle.operands.specs.declared.Operand.the-variants.{Unsupported, Nan, Infi
 -- an exponent above the bias gives an infinity
 abbrev pub limitOf : ℕ → Operand → Operand
 limitOf bias Unsupported = Unsupported
-limitOf bias Nan = Nan
+limitOf bias (Nan n s) = Nan n s
 limitOf bias (Infinite n) = Infinite n
 limitOf bias (Zero n) = Zero n
 limitOf bias (Finite u) = cond (ltZ (pos bias) (u .exponent)) (Infinite (u .negative)) (Finite u)

@@ -13,7 +13,7 @@ use Rattle.floats.proofs.Passed.{passed}
 use Rattle.gauges.specs.Held.{gaugeHeld, gaugeBits}
 use Rattle.points.specs.Held.{foldedBits}
 use Rattle.export_stems.proofs.Refusing.{kept}
-use Rattle.export_stems.proofs.Folded.{turn-shifted, number-told, reading-told, fold-held}
+use Rattle.export_stems.proofs.Folded.{turn-shifted, number-told, number-good, reading-told, fold-held}
 use borrow.Author.Needs.{needs}
 use Rattle.export_stems.proofs.zk_stem_fold.Statement.{statement}
 use Rattle.export_stems.proofs.zk_stem_fold.Tie as tie
@@ -87,12 +87,13 @@ returns-4 : tie.Need-returns-4
 returns-4 c =
     let e = c .before .before in
     let d = e .before in
-    let f = folded d in (
+    let f = folded d in
+    let z = ap (λ (f : FoldedPoint). f .number) (sym f) ∙ e .if4 .left in (
       sym (e .if4 .left) ∙ number-is d,
       c .pattern-of .ensures
           ∙ ap (λ (f : FoldedPoint). f .point .reading) f
-          ∙ reading-told (gaugeBits (gaugeHeld (gauge d))) (point d) (ap (λ (f : FoldedPoint). f .number) (sym f) ∙ e .if4 .left)
-          ∙ fold-held (gauge d) (reading d),
+          ∙ reading-told (gaugeBits (gaugeHeld (gauge d))) (point d) z
+          ∙ fold-held (gauge d) (reading d) (number-good (gauge d) (point d) z),
     )
 
 pub zk-stem-fold-spec : {M : Type 1} → statement M

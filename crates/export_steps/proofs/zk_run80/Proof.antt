@@ -13,12 +13,12 @@ use Rattle.export_steps.proofs.zk_run80.Statement.{statement}
 use Rattle.export_steps.proofs.zk_run80.Tie as tie
 
 -- what `run80` answers is the report on a block of the right length, of the kind that the number asks for
-told : (c : tie.After-run80) → let a = c .before .before .before .before .before .args in
-    runMeaning (c .run80 .result) ≡ runReport (lending (a .block .now)) (kindOf (a .kind)) (a .size) (a .budget) (words (a .xw) (a .x)) (words (a .yw) (a .y))
+told : (c : tie.After-run80) → let a = c .before .before .before .before .args in
+    runMeaning (c .run80 .result .answer) ≡ runReport (lending (a .block .now)) (kindOf (a .kind)) (a .size) (a .budget) (words (a .xw) (a .x)) (words (a .yw) (a .y))
 told c =
-    let a = c .before .before .before .before .before .args in
-    (rw (c .before .kind-of .ensures) at (c .run80 .ensures))
-    ∙ run-fitting (kindOf (a .kind)) (a .size) (words (a .xw) (a .x)) (words (a .yw) (a .y)) (length (a .block .now)) (a .budget) (c .before .before .before .if1 .left)
+    let a = c .before .before .before .before .args in
+    (rw (c .before .kind-of .ensures) at (c .run80 .ensures .0))
+    ∙ run-fitting (kindOf (a .kind)) (a .size) (words (a .xw) (a .x)) (words (a .yw) (a .y)) (length (a .block .now)) (a .budget) (c .before .before .if1 .left)
 
 number-of-requires : tie.Need-number-of-requires
 number-of-requires c κs = search needs
@@ -37,14 +37,14 @@ run80-requires c κs = search needs
 write-requires : tie.Need-write-requires
 write-requires c κs =
     let a = c .before .before .before .before .before .args in
-    let h = subst Small (sym (told c)) (run-small (lending (a .block .now)) (kindOf (a .kind)) (a .size) (words (a .xw) (a .x)) (words (a .yw) (a .y)) (a .budget)) in
+    let h = subst Small (sym (told (c .before))) (run-small (lending (a .block .now)) (kindOf (a .kind)) (a .size) (words (a .xw) (a .x)) (words (a .yw) (a .y)) (a .budget)) in
     (c .before .before .before .if1 .left, h .value, refl)
 
 same-length : tie.Need-same-length
 same-length c = search needs
 
 returns-2 : tie.Need-returns-2
-returns-2 c = rw (← told (c .before .before .before)) (c .before .before .write .ensures)
+returns-2 c = rw (← told (c .before .before .before .before)) (c .before .before .write .ensures)
 
 pub zk-run80-spec : {M : Type 1} → statement M
 zk-run80-spec =

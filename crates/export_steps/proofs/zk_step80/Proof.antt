@@ -13,12 +13,12 @@ use Rattle.export_steps.proofs.zk_step80.Statement.{statement}
 use Rattle.export_steps.proofs.zk_step80.Tie as tie
 
 -- what `step80` answers is the report on a block of the right length, of the kind that the number asks for
-told : (c : tie.After-step80) → let a = c .before .before .before .before .before .args in
-    stepMeaning (c .step80 .result) ≡ stepReport (lending (a .block .now)) (kindOf (a .kind)) (a .size) (words (a .xw) (a .x)) (words (a .yw) (a .y))
+told : (c : tie.After-step80) → let a = c .before .before .before .before .args in
+    stepMeaning (c .step80 .result .answer) ≡ stepReport (lending (a .block .now)) (kindOf (a .kind)) (a .size) (words (a .xw) (a .x)) (words (a .yw) (a .y))
 told c =
-    let a = c .before .before .before .before .before .args in
-    (rw (c .before .kind-of .ensures) at (c .step80 .ensures))
-    ∙ step-fitting (kindOf (a .kind)) (a .size) (words (a .xw) (a .x)) (words (a .yw) (a .y)) (length (a .block .now)) (c .before .before .before .if1 .left)
+    let a = c .before .before .before .before .args in
+    (rw (c .before .kind-of .ensures) at (c .step80 .ensures .0))
+    ∙ step-fitting (kindOf (a .kind)) (a .size) (words (a .xw) (a .x)) (words (a .yw) (a .y)) (length (a .block .now)) (c .before .before .if1 .left)
 
 number-of-requires : tie.Need-number-of-requires
 number-of-requires c κs = search needs
@@ -37,14 +37,14 @@ step80-requires c κs = search needs
 write-requires : tie.Need-write-requires
 write-requires c κs =
     let a = c .before .before .before .before .before .args in
-    let h = subst Small (sym (told c)) (step-small (lending (a .block .now)) (kindOf (a .kind)) (a .size) (words (a .xw) (a .x)) (words (a .yw) (a .y))) in
+    let h = subst Small (sym (told (c .before))) (step-small (lending (a .block .now)) (kindOf (a .kind)) (a .size) (words (a .xw) (a .x)) (words (a .yw) (a .y))) in
     (c .before .before .before .if1 .left, h .value, refl)
 
 same-length : tie.Need-same-length
 same-length c = search needs
 
 returns-2 : tie.Need-returns-2
-returns-2 c = rw (← told (c .before .before .before)) (c .before .before .write .ensures)
+returns-2 c = rw (← told (c .before .before .before .before)) (c .before .before .write .ensures)
 
 pub zk-step80-spec : {M : Type 1} → statement M
 zk-step80-spec =

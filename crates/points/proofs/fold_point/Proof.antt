@@ -45,7 +45,7 @@ returns-2 c =
     let a = g .before .args in
     let x = a .point .reading in
     let is = f .fold-reading .ensures ∙ ap (foldReading (gaugeBits (a .gauge))) (q .pattern-of .ensures) in
-    let back = ap (toBits binary64) (c .float-of .ensures) ∙ ap passed is ∙ fold-passed (gaugeBits (a .gauge)) (toBits binary64 x) in
+    let back = ap (toBits binary64) (c .float-of .ensures) ∙ ap passed is ∙ fold-passed (gaugeBits (a .gauge)) (toBits binary64 x) (good-is e) in
     ap (λ (r : ℕ). record { number = 0; point = record { reading = r; radius = toBits binary64 (a .point .radius) } }) back
     ∙ sym (point-folded (gaugeBits (a .gauge)) (pointBits (a .point)) (good-is e))
 

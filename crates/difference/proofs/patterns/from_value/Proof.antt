@@ -13,8 +13,14 @@ use Rattle.difference.proofs.patterns.from_value.Tie as tie
 enum-told : tie.Need-enum-told
 enum-told c = search needs
 
+house-operand-requires : tie.Need-house-operand-requires
+house-operand-requires c κs = search needs
+
 enum-told-2 : tie.Need-enum-told-2
 enum-told-2 c = search needs
+
+house-operand-requires-2 : tie.Need-house-operand-requires-2
+house-operand-requires-2 c κs = search needs
 
 enum-known-y : tie.Need-enum-known-y
 enum-known-y c = search needs
@@ -34,11 +40,11 @@ subtract-values-requires c κs =
 
 returns : tie.Need-returns
 unfolding operandOf classIn differenceClass
-returns c = rw (c .enum-told .given .1)
+returns c = rw (c .before .enum-told .given .1) (c .house-operand .ensures)
 
 returns-2 : tie.Need-returns-2
 unfolding operandOf classIn differenceClass
-returns-2 c = rw (c .enum-told2 .given .1)
+returns-2 c = rw (c .before .enum-told2 .given .1) (c .house-operand2 .ensures)
 
 returns-3 : tie.Need-returns-3
 unfolding operandOf classIn differenceClass
@@ -59,7 +65,9 @@ from-value-spec =
     tie.close
     (tie.spec
     enum-told
+    house-operand-requires
     enum-told-2
+    house-operand-requires-2
     enum-known-y
     enum-told-3
     enum-known-y-2

@@ -12,8 +12,14 @@ use Rattle.difference.proofs.patterns.subtract_operands.Tie as tie
 enum-told : tie.Need-enum-told
 enum-told c = search needs
 
+house-operand-requires : tie.Need-house-operand-requires
+house-operand-requires c κs = search needs
+
 enum-told-2 : tie.Need-enum-told-2
 enum-told-2 c = search needs
+
+house-operand-requires-2 : tie.Need-house-operand-requires-2
+house-operand-requires-2 c κs = search needs
 
 enum-known-x : tie.Need-enum-known-x
 enum-known-x c = search needs
@@ -39,17 +45,15 @@ from-value-requires c κs =
 
 returns : tie.Need-returns
 unfolding operandOf classIn differenceClass
-returns c = rw (c .enum-told .given .1)
+returns c = rw (c .before .enum-told .given .1) (c .house-operand .ensures)
 
 returns-2 : tie.Need-returns-2
 unfolding operandOf classIn differenceClass
-returns-2 c = rw (c .enum-told2 .given .1)
+returns-2 c = rw (c .before .enum-told2 .given .1) (c .house-operand2 .ensures)
 
 returns-3 : tie.Need-returns-3
 unfolding operandOf classIn differenceClass
-returns-3 c =
-    let s = c .before .before .before .before in
-    rw (c .before .before .x .given .1) (c .from-infinite .ensures (formatOf (s .args .shape)) (s .args .shape .smallest))
+returns-3 c = rw (c .before .before .x .given .1) (c .from-infinite .ensures)
 
 returns-4 : tie.Need-returns-4
 unfolding operandOf classIn differenceClass
@@ -64,7 +68,9 @@ subtract-operands-spec =
     tie.close
     (tie.spec
     enum-told
+    house-operand-requires
     enum-told-2
+    house-operand-requires-2
     enum-known-x
     from-infinite-requires
     enum-known-x-2

@@ -14,25 +14,25 @@ use Rattle.export_scaling.proofs.scale.zk_scale32.Statement.{statement}
 use Rattle.export_scaling.proofs.scale.zk_scale32.Tie as tie
 
 -- what is told, of the power that was handed over
-told : (c : tie.After-scale32) → let a = c .before .args in scaleMeaning (c .scale32 .result) ≡ scaleReport binary32 (a .x) (a .power)
-told c = rw (toZ-ofZ w32 (c .before .args .power) (c .before .fits .power)) at (c .scale32 .ensures)
+told : (c : tie.After-scale32) → let a = c .before .args in scaleMeaning (c .scale32 .result .answer) ≡ scaleReport binary32 (a .x) (a .power)
+told c = rw (toZ-ofZ w32 (c .before .args .power) (c .before .fits .power)) at (c .scale32 .ensures .0)
 
 scale32-requires : tie.Need-scale32-requires
 scale32-requires c κs = search needs
 
-enum-known-v : tie.Need-enum-known-v
-enum-known-v c = search needs
+enum-known-answer : tie.Need-enum-known-answer
+enum-known-answer c = search needs
 
 cast-value : tie.Need-cast-value
 cast-value c =
     let v = c .before .before in
-    omega (arith, value-small binary32 regular32 _ _ _ (told (v .before .before)) _ _ (v .v .given .1))
+    omega (arith, value-small binary32 regular32 _ _ _ (told (v .before .before)) _ _ (v .answer .given .1))
 
 says-number-requires : tie.Need-says-number-requires
 says-number-requires c κs = search needs
 
-enum-known-why : tie.Need-enum-known-why
-enum-known-why c = search needs
+enum-known-answer-2 : tie.Need-enum-known-answer-2
+enum-known-answer-2 c = search needs
 
 number-of-requires : tie.Need-number-of-requires
 number-of-requires c κs = search needs
@@ -40,23 +40,23 @@ number-of-requires c κs = search needs
 returns : tie.Need-returns
 returns c =
     let v = c .before .before .before in
-    scaled binary32 regular32 _ _ _ (told (v .before .before)) _ _ (v .v .given .1) _ (c .says-number .ensures) (lit≤ tt)
+    scaled binary32 regular32 _ _ _ (told (v .before .before)) _ _ (v .answer .given .1) _ (c .says-number .ensures) (lit≤ tt)
 
 returns-2 : tie.Need-returns-2
 returns-2 c =
     let e = c .before .before .before .before in
     let a = e .before .args in
-    refused binary32 regular32 _ _ _ (told e) _ _ (c .before .before .why .given .1) (c .number-of .ensures) (a .value .now) (a .says .now)
+    refused binary32 regular32 _ _ _ (told e) _ _ _ (c .before .before .answer2 .given .1) (c .number-of .ensures) (a .value .now) (a .says .now)
 
 pub zk-scale32-spec : {M : Type 1} → statement M
 zk-scale32-spec =
     tie.close
     (tie.spec
     scale32-requires
-    enum-known-v
+    enum-known-answer
     cast-value
     says-number-requires
-    enum-known-why
+    enum-known-answer-2
     number-of-requires
     returns
     returns-2)

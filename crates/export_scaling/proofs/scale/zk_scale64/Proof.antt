@@ -13,20 +13,20 @@ use Rattle.export_scaling.proofs.scale.zk_scale64.Statement.{statement}
 use Rattle.export_scaling.proofs.scale.zk_scale64.Tie as tie
 
 -- what is told, of the power that was handed over
-told : (c : tie.After-scale64) → let a = c .before .args in scaleMeaning (c .scale64 .result) ≡ scaleReport binary64 (a .x) (a .power)
-told c = rw (toZ-ofZ w32 (c .before .args .power) (c .before .fits .power)) at (c .scale64 .ensures)
+told : (c : tie.After-scale64) → let a = c .before .args in scaleMeaning (c .scale64 .result .answer) ≡ scaleReport binary64 (a .x) (a .power)
+told c = rw (toZ-ofZ w32 (c .before .args .power) (c .before .fits .power)) at (c .scale64 .ensures .0)
 
 scale64-requires : tie.Need-scale64-requires
 scale64-requires c κs = search needs
 
-enum-known-v : tie.Need-enum-known-v
-enum-known-v c = search needs
+enum-known-answer : tie.Need-enum-known-answer
+enum-known-answer c = search needs
 
 says-number-requires : tie.Need-says-number-requires
 says-number-requires c κs = search needs
 
-enum-known-why : tie.Need-enum-known-why
-enum-known-why c = search needs
+enum-known-answer-2 : tie.Need-enum-known-answer-2
+enum-known-answer-2 c = search needs
 
 number-of-requires : tie.Need-number-of-requires
 number-of-requires c κs = search needs
@@ -34,22 +34,22 @@ number-of-requires c κs = search needs
 returns : tie.Need-returns
 returns c =
     let v = c .before .before in
-    scaled binary64 regular64 _ _ _ (told (v .before .before)) _ _ (v .v .given .1) _ (c .says-number .ensures) (lit≤ tt)
+    scaled binary64 regular64 _ _ _ (told (v .before .before)) _ _ (v .answer .given .1) _ (c .says-number .ensures) (lit≤ tt)
 
 returns-2 : tie.Need-returns-2
 returns-2 c =
     let e = c .before .before .before .before in
     let a = e .before .args in
-    refused binary64 regular64 _ _ _ (told e) _ _ (c .before .before .why .given .1) (c .number-of .ensures) (a .value .now) (a .says .now)
+    refused binary64 regular64 _ _ _ (told e) _ _ _ (c .before .before .answer2 .given .1) (c .number-of .ensures) (a .value .now) (a .says .now)
 
 pub zk-scale64-spec : {M : Type 1} → statement M
 zk-scale64-spec =
     tie.close
     (tie.spec
     scale64-requires
-    enum-known-v
+    enum-known-answer
     says-number-requires
-    enum-known-why
+    enum-known-answer-2
     number-of-requires
     returns
     returns-2)
