@@ -63,7 +63,10 @@ pub enum StepsAnswer {
         quotient: u32,
         steps: u32,
     },
-    Refused { why: Refusal, value: Pattern },
+    Refused {
+        why: Refusal,
+        value: Pattern,
+    },
 }
 
 // A value scaled by a power of two.

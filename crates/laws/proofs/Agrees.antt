@@ -99,6 +99,7 @@ writes g unsupported v p one = absurd p
 writes g (nan n t) v p one = ap (patternOf (ours g)) (one refl) ∙ house-is (ours g) (ours-regular g) ∙ house-bits g ∙ ap (toBits g) (sym p)
 writes g (infinite s) v p one = written g (infinite s) v p refl
 writes g (finite x) v p one = written g (finite x) v p refl
+
 -- ---- the toolchain's remainder of two finite values
 
 -- one remainder in two units

@@ -26,9 +26,10 @@ returns : tie.Need-returns
 returns c =
     let d = c .before .before in
     let x = d .before .before .of-pattern .ensures in
-    let y = d .before .of-pattern2 .ensures in
-    (patterns-signed binary16 sound16 _ (d .shape .ensures) _ _ _ _ x y _ (c .before .signed-of .result) (c .before .signed-of .ensures),
-    patterns-denormal binary16 sound16 _ (d .shape .ensures) _ _ _ _ x y _ (c .any-denormal16 .result) (c .any-denormal16 .ensures))
+    let y = d .before .of-pattern2 .ensures in (
+      patterns-signed binary16 sound16 _ (d .shape .ensures) _ _ _ _ x y _ (c .before .signed-of .result) (c .before .signed-of .ensures),
+      patterns-denormal binary16 sound16 _ (d .shape .ensures) _ _ _ _ x y _ (c .any-denormal16 .result) (c .any-denormal16 .ensures),
+    )
 
 pub remquo16-spec : {M : Type 1} → statement M
 remquo16-spec =

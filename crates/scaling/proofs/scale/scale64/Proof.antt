@@ -28,10 +28,11 @@ returns : tie.Need-returns
 unfolding scaleReport
 returns c =
     let k = c .before in
-    let s = k .before .before .before in
-    (rw (← class-pattern binary64 sound64 (s .args .x) _ (k .before .before .of-pattern .ensures))
-    (rw (k .before .shape .ensures, toZ-ofZ w32 (s .args .power) (s .fits .power)) at (k .scale-of .ensures)),
-    c .denormal64 .ensures ∙ sym (told-always binary64 Truncated (s .args .x) 0 (s .args .power) .2))
+    let s = k .before .before .before in (
+      rw (← class-pattern binary64 sound64 (s .args .x) _ (k .before .before .of-pattern .ensures))
+          (rw (k .before .shape .ensures, toZ-ofZ w32 (s .args .power) (s .fits .power)) at (k .scale-of .ensures)),
+      c .denormal64 .ensures ∙ sym (told-always binary64 Truncated (s .args .x) 0 (s .args .power) .2),
+    )
 
 pub scale64-spec : {M : Type 1} → statement M
 scale64-spec = tie.close (tie.spec of-pattern-requires shape-requires scale-of-requires denormal64-requires returns)

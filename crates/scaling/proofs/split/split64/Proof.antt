@@ -27,9 +27,10 @@ returns : tie.Need-returns
 unfolding splitReport
 returns c =
     let k = c .before in
-    let s = k .before .before .before in
-    (rw (← class-pattern binary64 sound64 (s .args .x) _ (k .before .before .of-pattern .ensures)) (rw (k .before .shape .ensures) at (k .split-of .ensures)),
-    c .denormal64 .ensures ∙ sym (told-always binary64 Truncated (s .args .x) 0 (pos 0) .3))
+    let s = k .before .before .before in (
+      rw (← class-pattern binary64 sound64 (s .args .x) _ (k .before .before .of-pattern .ensures)) (rw (k .before .shape .ensures) at (k .split-of .ensures)),
+      c .denormal64 .ensures ∙ sym (told-always binary64 Truncated (s .args .x) 0 (pos 0) .3),
+    )
 
 pub split64-spec : {M : Type 1} → statement M
 split64-spec = tie.close (tie.spec of-pattern-requires shape-requires split-of-requires denormal64-requires returns)

@@ -27,9 +27,10 @@ returns : tie.Need-returns
 unfolding splitReport
 returns c =
     let k = c .before in
-    let s = k .before .before .before in
-    (rw (← class-pattern x87 sound80 (words (s .args .xw) (s .args .x)) _ (k .before .before .of-pattern .ensures)) (rw (k .before .shape .ensures) at (k .split-of .ensures)),
-    c .denormal80 .ensures ∙ sym (told-always x87 Truncated (words (s .args .xw) (s .args .x)) 0 (pos 0) .3))
+    let s = k .before .before .before in (
+      rw (← class-pattern x87 sound80 (words (s .args .xw) (s .args .x)) _ (k .before .before .of-pattern .ensures)) (rw (k .before .shape .ensures) at (k .split-of .ensures)),
+      c .denormal80 .ensures ∙ sym (told-always x87 Truncated (words (s .args .xw) (s .args .x)) 0 (pos 0) .3),
+    )
 
 pub split80-spec : {M : Type 1} → statement M
 split80-spec = tie.close (tie.spec of-pattern-requires shape-requires split-of-requires denormal80-requires returns)

@@ -27,10 +27,11 @@ returns c =
     let k = c .before in
     let y = k .before in
     let x = y .before in
-    let a = x .before .args in
-    (k .call .ensures 7 refl
-    ∙ run-report (words (a .xw) (a .x)) (words (a .yw) (a .y)) (x .of-pattern .result .operand) (y .of-pattern2 .result .operand) (x .of-pattern .ensures) (y .of-pattern2 .ensures) (a .kind) (a .size) (a .budget),
-    c .told-denormal .ensures ∙ sym (told-sized (a .kind) (a .size) (a .budget) (words (a .xw) (a .x)) (words (a .yw) (a .y)) .1))
+    let a = x .before .args in (
+      k .call .ensures 7 refl
+          ∙ run-report (words (a .xw) (a .x)) (words (a .yw) (a .y)) (x .of-pattern .result .operand) (y .of-pattern2 .result .operand) (x .of-pattern .ensures) (y .of-pattern2 .ensures) (a .kind) (a .size) (a .budget),
+      c .told-denormal .ensures ∙ sym (told-sized (a .kind) (a .size) (a .budget) (words (a .xw) (a .x)) (words (a .yw) (a .y)) .1),
+    )
 
 pub run80-spec : {M : Type 1} → statement M
 run80-spec = tie.close (tie.spec of-pattern-requires of-pattern-requires-2 call-requires told-denormal-requires returns)

@@ -27,10 +27,11 @@ returns c =
     let k = c .before in
     let y = k .before in
     let x = y .before in
-    let a = x .before .args in
-    (k .call .ensures 1 refl
-    ∙ step-report (words (a .xw) (a .x)) (words (a .yw) (a .y)) (x .of-pattern .result .operand) (y .of-pattern2 .result .operand) (x .of-pattern .ensures) (y .of-pattern2 .ensures) (a .kind) (a .size),
-    c .told-denormal .ensures ∙ sym (told-sized (a .kind) (a .size) 0 (words (a .xw) (a .x)) (words (a .yw) (a .y)) .0))
+    let a = x .before .args in (
+      k .call .ensures 1 refl
+          ∙ step-report (words (a .xw) (a .x)) (words (a .yw) (a .y)) (x .of-pattern .result .operand) (y .of-pattern2 .result .operand) (x .of-pattern .ensures) (y .of-pattern2 .ensures) (a .kind) (a .size),
+      c .told-denormal .ensures ∙ sym (told-sized (a .kind) (a .size) 0 (words (a .xw) (a .x)) (words (a .yw) (a .y)) .0),
+    )
 
 pub step80-spec : {M : Type 1} → statement M
 step80-spec = tie.close (tie.spec of-pattern-requires of-pattern-requires-2 call-requires told-denormal-requires returns)
