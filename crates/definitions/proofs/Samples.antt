@@ -11,6 +11,7 @@ use Rattle.digits.proofs.Tests.{not-zero}
 use Rattle.definitions.specs.Class.{gap}
 use Rattle.definitions.specs.Format.{Format, words, classOf, patternOf, magnitude, houseNan, x87}
 use Rattle.definitions.specs.Numbers.{first}
+use Rattle.definitions.specs.Facts.{denormal}
 use Rattle.definitions.specs.Division.{finish}
 use Rattle.definitions.specs.Remainder.{remainder}
 use Rattle.definitions.specs.declared.Kind.the-variants.{Truncated, Nearest}
@@ -20,7 +21,7 @@ use Rattle.definitions.specs.Round.{Rounded, round}
 use Rattle.definitions.specs.Steps.{step, run}
 use Rattle.definitions.specs.Reports.{nothing, block, stepReport, runReport}
 use Rattle.definitions.specs.Calls as calls
-use Rattle.definitions.specs.Calls.{Call, Made, answer, made, answers, lastValue, Runs, Some}
+use Rattle.definitions.specs.Calls.{Call, Made, answer, made, answers, lastValue, firstDenormal, Runs, Some}
 use Rattle.definitions.specs.Fold.{Folded, foldList}
 use Rattle.definitions.specs.declared.Refusal.{Refusal}
 use Rattle.definitions.specs.declared.Refusal.the-variants as why
@@ -219,6 +220,18 @@ pub one-size : let ts = answers (madeFrom (calls.run nothing 32 0 ∷ calls.step
     Runs 32 ts × Some ts × (length ts ≡ 2)
 unfolding made answers answer stepReport runReport size gap classOf patternOf magnitude first finish step run
 one-size = ((refl, (refl, tt)), tt, refl)
+
+-- [5.10] they tell of the pseudo-denormal as it was given, where any was accepted
+pub first-denormals : map (λ cs. firstDenormal 0x3FFF8000000000000000 (answers (madeFrom cs)))
+    ([]
+    ∷ (calls.step nothing 31 ∷ calls.run nothing 64 0 ∷ [])
+    ∷ (calls.run nothing 32 0 ∷ [])
+    ∷ (calls.run nothing 64 0 ∷ calls.run nothing 32 0 ∷ calls.run nothing 32 9 ∷ [])
+    ∷ (calls.step nothing 63 ∷ [])
+    ∷ [])
+    ≡ false ∷ false ∷ true ∷ true ∷ true ∷ []
+unfolding made answers firstDenormal denormal answer stepReport runReport size gap classOf patternOf magnitude first finish step run
+first-denormals = refl
 
 -- ---- [10.1] the bytes that are hex digits, among all, and what they stand for
 abbrev hexBytes : ℕ → ℕ → List ℕ

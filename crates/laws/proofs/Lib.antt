@@ -7,6 +7,7 @@ pub mod Pattern
 pub mod RoundTrip
 pub mod Nan
 pub mod Ordinary
+pub mod Denormal
 pub mod Range
 pub mod Division
 pub mod Agrees
