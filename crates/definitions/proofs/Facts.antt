@@ -11,7 +11,7 @@ use Rattle.digits.proofs.Tests.{clash}
 use Rattle.definitions.specs.Class.{Class, unsupported, nan, infinite, finite, gap}
 use Rattle.definitions.specs.Format.{Format, binary16, binary32, binary64, x87, classOf, patternOf, magnitude}
 use Rattle.definitions.specs.Numbers.{first, dividing, isUnsupported, isNan, isInfinite, isZero}
-use Rattle.definitions.specs.Facts.{against, chosen, nanOf, denormal, toldDenormal}
+use Rattle.definitions.specs.Facts.{nanAgainst, chosen, nanOf, denormal, toldDenormal}
 use Rattle.definitions.specs.Division.{finish, dividendOf, divisorOf}
 use Rattle.definitions.specs.Remainder.{remainder, remainderOf}
 use Rattle.definitions.specs.Signed.{signedRemainder, signedOf}

@@ -9,15 +9,15 @@ use Rattle.definitions.specs.Format.{Format, topField, leading, fieldWei
 
 -- [2.11] of two operands: of a NaN and anything else the NaN; of two NaNs the one with the larger significand, and the dividend's where they are equal.
 -- Where neither is one, it is none
-abbrev pub against : Bool → ℕ → Class → Class
-against m s unsupported = nan m s
-against m s (nan n t) = cond (ltb s t) (nan n t) (nan m s)
-against m s (infinite n) = nan m s
-against m s (finite w) = nan m s
+abbrev pub nanAgainst : Bool → ℕ → Class → Class
+nanAgainst m s unsupported = nan m s
+nanAgainst m s (nan n t) = cond (ltb s t) (nan n t) (nan m s)
+nanAgainst m s (infinite n) = nan m s
+nanAgainst m s (finite w) = nan m s
 
 abbrev pub chosen : Class → Class → Class
 chosen unsupported y = y
-chosen (nan m s) y = against m s y
+chosen (nan m s) y = nanAgainst m s y
 chosen (infinite n) y = y
 chosen (finite v) y = y
 

@@ -12,7 +12,7 @@ use Rattle.digits.proofs.Tests.{clash}
 use Rattle.definitions.specs.Class.{Value, Class, unsupported, nan, infinite, finite}
 use Rattle.definitions.specs.Format.{Format, Regular, NanStored, Holds, topField, leading, fieldWeight, storedWeight, withSign, classOf, patternOf, houseNan, patterns}
 use Rattle.definitions.specs.Numbers.{isNan}
-use Rattle.definitions.specs.Facts.{against, chosen, quietWeight, quieted, quietPattern, nanOf}
+use Rattle.definitions.specs.Facts.{nanAgainst, chosen, quietWeight, quieted, quietPattern, nanOf}
 use Rattle.definitions.specs.declared.Layout.{Layout}
 use Rattle.definitions.specs.declared.Layout.the-variants.{Hidden, Explicit}
 use Rattle.definitions.proofs.Facts.{chosen-nan, chosen-one, chosen-same}

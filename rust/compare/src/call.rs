@@ -3,7 +3,7 @@
 use crate::formats::Layout;
 use crate::Library;
 use second::stem::{self, Gauge, Point, Stem};
-use second::{Answer, Folded, Format, Kind, BLOCK_LENGTH, QUOTIENT_MODULUS};
+use second::{Answer, Folded, Format, Kind, BLOCK_LENGTH, QUOTIENT_MODULUS, SHOWN_MODULUS};
 
 /// A call of one operation, with its operands in this order. A step or a run is lent a block of
 /// `length` bytes.
@@ -21,6 +21,10 @@ pub enum Call {
     Scale(Format, u128, i32),
     /// format, value
     Split(Format, u128),
+    /// format, value; told is whether it is denormal
+    Denormal(Format, u128),
+    /// format, dividend, divisor; told is the NaN among them
+    Nan(Format, u128, u128),
 }
 
 /// Whoever can be asked. What is not written otherwise is the library's.
@@ -73,7 +77,7 @@ pub const MISWROTE: u8 = 254;
 const BAD_LENGTH: u8 = 9;
 
 /// The answer of a step or a run. Here and below the fields are in the order in which files have
-/// them.
+/// them, and no operand is denormal.
 pub fn divided(value: u128, number: u8, quotient: u32, steps: u32) -> Answer {
     Answer {
         number,
@@ -83,6 +87,7 @@ pub fn divided(value: u128, number: u8, quotient: u32, steps: u32) -> Answer {
         steps,
         says: 0,
         exponent: 0,
+        denormal: false,
     }
 }
 
@@ -97,13 +102,51 @@ pub fn signed(value: u128, number: u8, signed: i32) -> Answer {
     Answer { signed, ..answer }
 }
 
-/// An answer that is expected, of which quotients are shown modulo `shown`: the rest is ours.
-pub fn completed(expected: Answer, shown: u32, ours: &Answer) -> Answer {
-    let rest = ours.quotient % QUOTIENT_MODULUS / shown * shown;
-    let quotient = expected.quotient + rest;
-    Answer {
-        quotient,
-        ..expected
+/// What a file shows of its answers.
+#[derive(Clone, Copy, Debug)]
+pub struct Shown {
+    /// Quotients are shown modulo this.
+    pub modulus: u32,
+    /// Whether a last field tells of denormal operands.
+    pub denormal: bool,
+}
+
+impl Shown {
+    pub const ALL: Shown = Shown {
+        modulus: QUOTIENT_MODULUS,
+        denormal: true,
+    };
+
+    pub const PLAIN: Shown = Shown {
+        modulus: QUOTIENT_MODULUS,
+        denormal: false,
+    };
+
+    pub const OCTANTS: Shown = Shown {
+        modulus: SHOWN_MODULUS,
+        denormal: false,
+    };
+
+    /// What the file of a path shows.
+    pub fn by(path: &str) -> Shown {
+        if path.contains("octants/") {
+            Shown::OCTANTS
+        } else if path.contains("plain/") || path.contains("remquo-") {
+            Shown::PLAIN
+        } else {
+            Shown::ALL
+        }
+    }
+
+    /// An answer that is expected. What is not shown of it is ours.
+    pub fn completed(self, expected: Answer, ours: &Answer) -> Answer {
+        let rest = ours.quotient % QUOTIENT_MODULUS / self.modulus * self.modulus;
+        let denormal = if self.denormal { &expected } else { ours }.denormal;
+        Answer {
+            quotient: expected.quotient + rest,
+            denormal,
+            ..expected
+        }
     }
 }
 
@@ -117,8 +160,14 @@ pub fn split(value: u128, number: u8, exponent: i32) -> Answer {
     Answer { exponent, ..answer }
 }
 
-pub fn refused(format: Format, number: u8) -> Answer {
-    divided(Layout::of(format).house_nan(), number, 0, 0)
+pub fn refused(value: u128, number: u8, denormal: bool) -> Answer {
+    let answer = divided(value, number, 0, 0);
+    Answer { denormal, ..answer }
+}
+
+/// What is told of a pattern by itself.
+pub fn is_denormal(denormal: bool) -> Answer {
+    refused(0, 0, denormal)
 }
 
 /// The second implementation. It has no blocks: a wrong length is refused here.
@@ -131,8 +180,10 @@ impl Implementation for Second {
 
     fn answer(&self, call: &Call) -> Answer {
         match *call {
-            Call::Step(.., length) | Call::Run(.., length) if length != LENGTH => {
-                refused(Format::X87, BAD_LENGTH)
+            Call::Step(.., x, y, length) | Call::Run(.., x, y, length) if length != LENGTH => {
+                let denormal = [x, y].map(|x| second::denormal(Format::X87, x));
+                let house_nan = Layout::of(Format::X87).house_nan();
+                refused(house_nan, BAD_LENGTH, denormal.contains(&true))
             }
             Call::Remainder(format, kind, x, y) => second::remainder(format, kind, x, y),
             Call::Remquo(format, kind, x, y) => second::remquo(format, kind, x, y),
@@ -140,6 +191,8 @@ impl Implementation for Second {
             Call::Run(kind, size, budget, x, y, _) => second::run(kind, size, budget, x, y),
             Call::Scale(format, x, power) => second::scale(format, x, power),
             Call::Split(format, x) => second::split(format, x),
+            Call::Denormal(format, x) => is_denormal(second::denormal(format, x)),
+            Call::Nan(format, x, y) => remained(second::nan(format, x, y), 0, 0),
         }
     }
 

@@ -7,8 +7,13 @@ use std::str::{FromStr, SplitWhitespace};
 
 /// The text of a file, by its path among the vectors.
 pub fn read(path: &str) -> String {
+    String::from_utf8(read_bytes(path)).unwrap_or_else(|why| panic!("{path}: {why}"))
+}
+
+/// The same, where it may be no text.
+pub fn read_bytes(path: &str) -> Vec<u8> {
     let path = format!("{}/../../vectors/{path}", env!("CARGO_MANIFEST_DIR"));
-    fs::read_to_string(&path).unwrap_or_else(|why| panic!("{path}: {why}"))
+    fs::read(&path).unwrap_or_else(|why| panic!("{path}: {why}"))
 }
 
 pub fn format_named(name: &str) -> Format {
@@ -49,6 +54,14 @@ impl<'a> Fields<'a> {
             "0" => Kind::Truncated,
             "1" => Kind::Nearest,
             other => panic!("no kind: {other}"),
+        }
+    }
+
+    pub fn yes(&mut self) -> bool {
+        match self.word() {
+            "0" => false,
+            "1" => true,
+            other => panic!("neither yes nor no: {other}"),
         }
     }
 

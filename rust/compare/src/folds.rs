@@ -49,7 +49,8 @@ pub fn long(pair: Pair, places: usize) -> (u64, u64, u32) {
     let mut comparison = Comparison::new(pair);
     let mut draw = Draw(2);
     let (kind, divisor) = (Kind::Truncated, 2f64.to_bits());
-    let nans = vec![f64::NAN.to_bits(); places];
+    let mut nan = || layout.nan(draw.below(2), draw.below(2) == 1, draw.bits()) as u64;
+    let nans: Vec<u64> = (0..places).map(|_| nan()).collect();
     let marked = hold(&mut comparison, kind, &nans, divisor, None).steps;
     let any: Vec<u64> = (0..places).map(|_| draw.any(&layout) as u64).collect();
     hold(&mut comparison, kind, &any, divisor, None);

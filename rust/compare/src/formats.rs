@@ -84,9 +84,46 @@ impl Layout {
         x >> (self.field + self.stored) & 1 == 1
     }
 
-    /// The NaN that stands for the value of a refused call.
+    /// The NaN that stands for the value of a call that is refused without one.
     pub fn house_nan(&self) -> u128 {
-        self.packed(0, self.ones(), self.leading() | self.leading() >> 1)
+        self.nan(0, true, 0)
+    }
+
+    /// The top digit of a fraction, which only quiet NaNs have.
+    fn quiet(&self) -> u64 {
+        self.leading() >> 1
+    }
+
+    /// A NaN, with the first of the digits below the one that makes it quiet. A signalling one has
+    /// at least one digit.
+    pub fn nan(&self, sign: u64, is_quiet: bool, digits: u64) -> u128 {
+        let rest = digits >> (66 - self.precision);
+        let fraction = match is_quiet {
+            true => self.quiet() | rest,
+            false => rest.max(1),
+        };
+        self.packed(sign, self.ones(), self.leading() | fraction)
+    }
+
+    /// Of a NaN, whether it is quiet, and its digits below the one that says so.
+    pub fn payload(&self, x: u128) -> (bool, u64) {
+        let digits = x as u64 % self.leading();
+        (digits >= self.quiet(), digits % self.quiet())
+    }
+
+    /// What a pattern is where denormals begin and end. None for those with other fields.
+    pub fn near_denormals(&self, x: u128) -> Option<&'static str> {
+        let digits = x as u64 % self.leading();
+        let field = (x >> self.stored) as u64 & self.ones();
+        match (self.sorted(x).0, field) {
+            ("denormal", _) if digits == 1 => Some("smallest denormal"),
+            ("denormal", _) if digits == self.leading() - 1 => Some("largest denormal"),
+            ("normal", 1) if digits == 0 => Some("smallest normal"),
+            ("normal", 1) => Some("normal of field 1"),
+            ("unsupported", 1) => Some("unsupported of field 1"),
+            (class @ ("zero" | "denormal" | "pseudo-denormal"), _) => Some(class),
+            _ => None,
+        }
     }
 
     /// The class of a pattern, and for a finite one the place of its leading one.

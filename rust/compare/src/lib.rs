@@ -22,9 +22,12 @@ pub mod stems;
 pub mod vectors;
 pub mod writes;
 
-pub use call::{refused, remained, signed, Call, Implementation, Pair, Second, LENGTH, MISWROTE};
+pub use call::{
+    is_denormal, refused, remained, signed, Call, Implementation, Pair, Second, Shown, LENGTH,
+    MISWROTE,
+};
 pub use comparison::Comparison;
-pub use fields::read;
+pub use fields::{read, read_bytes};
 pub use library::{lent, lent_length, lent_lists, lent_places, lent_room, Library};
 pub use second::stem::{Gauge, Point, Stem};
 pub use second::{Answer, Folded, Format, Kind, QUOTIENT_MODULUS, SHOWN_MODULUS};

@@ -2,12 +2,13 @@
 //! than it may, or anything with a refusal, is seen.
 
 use crate::call::{
-    divided, refused, remained, scaled, signed, split, Call, Implementation, MISWROTE,
+    divided, is_denormal, refused, remained, scaled, signed, split, Call, Implementation, MISWROTE,
 };
 use second::stem::{Gauge, Point, Stem, ROLLER, TURN};
 use second::{Answer, Folded, Format, Kind, SHOWN_MODULUS};
 use std::ops::Range;
-use zukemoriha::{binary16, binary32, binary64, x87, Block, Refusal, X87};
+use zukemoriha::{binary16, binary32, binary64, x87, Block, Refusal};
+use zukemoriha::{Refused, Remainder, Remquo, Scaled, Split, Stepped, X87};
 
 const FILLED: u8 = 0xA5;
 /// Filled bytes on either side of a block or a room.
@@ -17,23 +18,106 @@ const FILLED_LENGTH: usize = usize::from_ne_bytes([FILLED; 8]);
 /// What stands where a value or a quotient goes, and beside it.
 const FILLED_PLACE: u64 = u64::from_ne_bytes([FILLED; 8]);
 
-/// Calls a function of the format's own module, on operands of its own type, and makes an answer
-/// of two fields of what it returns.
+/// Calls a function of the format's own module, on operands of its own type, and puts what it
+/// returns into a form for all formats.
 macro_rules! in_format {
-    ($format:ident, $function:ident($($x:ident),*; $($other:expr),*),
-     $answer:ident($value:ident, $more:ident)) => {
+    ($format:ident, $function:ident($($x:ident),*; $($other:expr),*).$form:ident()) => {
         match $format {
-            Format::Binary16 => binary16::$function($($x as u16,)* $($other),*)
-                .map(|told| $answer(told.$value.into(), 0, told.$more as _)),
-            Format::Binary32 => binary32::$function($($x as u32,)* $($other),*)
-                .map(|told| $answer(told.$value.into(), 0, told.$more as _)),
-            Format::Binary64 => binary64::$function($($x as u64,)* $($other),*)
-                .map(|told| $answer(told.$value.into(), 0, told.$more as _)),
-            Format::X87 => x87::$function($(operand($x),)* $($other),*)
-                .map(|told| $answer(pattern(told.$value), 0, told.$more as _)),
+            Format::Binary16 => binary16::$function($($x as u16,)* $($other),*).$form(),
+            Format::Binary32 => binary32::$function($($x as u32,)* $($other),*).$form(),
+            Format::Binary64 => binary64::$function($($x as u64,)* $($other),*).$form(),
+            Format::X87 => x87::$function($(operand($x),)* $($other),*).$form(),
         }
-        .unwrap_or_else(|why| refused($format, why.number()))
     };
+}
+
+/// A pattern.
+trait Bits {
+    fn bits(self) -> u128;
+}
+
+macro_rules! integer_bits {
+    ($($pattern:ty),*) => {
+        $(impl Bits for $pattern {
+            fn bits(self) -> u128 {
+                self.into()
+            }
+        })*
+    };
+}
+
+integer_bits!(u16, u32, u64);
+
+impl Bits for X87 {
+    fn bits(self) -> u128 {
+        u128::from(self.word) << 64 | u128::from(self.significand)
+    }
+}
+
+/// What a call returns.
+trait Told {
+    fn answer(self) -> Answer;
+}
+
+impl<T: Told, U: Told> Told for Result<T, U> {
+    fn answer(self) -> Answer {
+        self.map_or_else(Told::answer, Told::answer)
+    }
+}
+
+impl<T: Bits> Told for Remainder<T> {
+    fn answer(self) -> Answer {
+        let answer = remained(self.value.bits(), 0, self.quotient);
+        on(answer, self.denormal)
+    }
+}
+
+impl<T: Bits> Told for Remquo<T> {
+    fn answer(self) -> Answer {
+        let answer = signed(self.value.bits(), 0, self.quotient);
+        on(answer, self.denormal)
+    }
+}
+
+impl<T: Bits> Told for Scaled<T> {
+    fn answer(self) -> Answer {
+        let answer = scaled(self.value.bits(), 0, self.rounding as u8);
+        on(answer, self.denormal)
+    }
+}
+
+impl<T: Bits> Told for Split<T> {
+    fn answer(self) -> Answer {
+        let answer = split(self.significand.bits(), 0, self.exponent);
+        on(answer, self.denormal)
+    }
+}
+
+impl Told for Stepped {
+    fn answer(self) -> Answer {
+        let Stepped { block, denormal } = self;
+        let (value, number) = (block.value.bits(), block.answer.number());
+        on(
+            divided(value, number, block.quotient, block.steps),
+            denormal,
+        )
+    }
+}
+
+impl<T: Bits> Told for Refused<T> {
+    fn answer(self) -> Answer {
+        refused(self.value.bits(), self.refusal.number(), self.denormal)
+    }
+}
+
+impl Told for bool {
+    fn answer(self) -> Answer {
+        is_denormal(self)
+    }
+}
+
+fn on(answer: Answer, denormal: bool) -> Answer {
+    Answer { denormal, ..answer }
 }
 
 pub struct Library;
@@ -46,10 +130,10 @@ impl Implementation for Library {
     fn answer(&self, call: &Call) -> Answer {
         match *call {
             Call::Remainder(format, kind, x, y) => {
-                in_format!(format, remainder(x, y; kind_of(kind)), remained(value, quotient))
+                in_format!(format, remainder(x, y; kind_of(kind)).answer())
             }
             Call::Remquo(format, kind, x, y) => {
-                in_format!(format, remquo(x, y; kind_of(kind)), signed(value, quotient))
+                in_format!(format, remquo(x, y; kind_of(kind)).answer())
             }
             Call::Step(kind, size, x, y, length) => lent(length, |room, block| {
                 let (x, y) = (operand(x), operand(y));
@@ -59,12 +143,10 @@ impl Implementation for Library {
                 let (x, y) = (operand(x), operand(y));
                 x87::run_into(x, y, size, kind_of(kind), budget, &mut room[block])
             }),
-            Call::Scale(format, x, power) => {
-                in_format!(format, scale(x; power), scaled(value, rounding))
-            }
-            Call::Split(format, x) => {
-                in_format!(format, split(x;), split(significand, exponent))
-            }
+            Call::Scale(format, x, power) => in_format!(format, scale(x; power).answer()),
+            Call::Split(format, x) => in_format!(format, split(x;).answer()),
+            Call::Denormal(format, x) => in_format!(format, denormal(x;).answer()),
+            Call::Nan(format, x, y) => remained(in_format!(format, nan(x, y;).bits()), 0, 0),
         }
     }
 
@@ -129,7 +211,7 @@ fn point_of(point: zukemoriha::Point) -> Point {
 /// What a call that is lent a block tells. It gets the whole room, and where the block lies in it.
 pub fn lent<F>(length: usize, call: F) -> Answer
 where
-    F: FnOnce(&mut [u8], Range<usize>) -> Result<zukemoriha::Answer, Refusal>,
+    F: FnOnce(&mut [u8], Range<usize>) -> Result<Stepped, Refused<X87>>,
 {
     let mut room = vec![FILLED; SIDE + length + SIDE];
     let place = SIDE..SIDE + length;
@@ -139,21 +221,20 @@ where
         room[place].fill(FILLED);
     }
     let kept = room.iter().all(|&byte| byte == FILLED);
-    match (told, read_block(&written)) {
-        (Err(why), _) if kept => refused(Format::X87, why.number()),
-        (Ok(answer), Some(read)) if kept && read.number == answer.number() => read,
-        _ => refused(Format::X87, MISWROTE),
+    let is_right = told.map_or(true, |told| is_laid_out(&told, &written));
+    match kept && is_right {
+        true => told.answer(),
+        false => refused(0, MISWROTE, false),
     }
 }
 
-/// The fields of a block, if they are laid out in its bytes as the second implementation does it.
-fn read_block(bytes: &[u8]) -> Option<Answer> {
-    let block = Block::from_bytes(bytes.try_into().ok()?)?;
-    let (value, number) = (pattern(block.value), block.answer.number());
-    let answer = divided(value, number, block.quotient, block.steps);
-    let octant = u32::from(block.octant);
-    let is_so = octant == block.quotient % SHOWN_MODULUS && second::block(&answer) == bytes;
-    is_so.then_some(answer)
+/// Whether a block's bytes have its fields, laid out as the second implementation does it.
+fn is_laid_out(told: &Stepped, bytes: &[u8]) -> bool {
+    let block = told.block;
+    let read = bytes.try_into().ok().and_then(Block::from_bytes);
+    read == Some(block)
+        && u32::from(block.octant) == block.quotient % SHOWN_MODULUS
+        && second::block(&told.answer()) == bytes
 }
 
 /// What a fold that is lent lists of `n` places tells. It gets them with one place more.
@@ -271,8 +352,4 @@ fn operand(x: u128) -> X87 {
         significand: x as u64,
         word: (x >> 64) as u16,
     }
-}
-
-fn pattern(x: X87) -> u128 {
-    u128::from(x.word) << 64 | u128::from(x.significand)
 }

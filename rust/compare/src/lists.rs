@@ -4,7 +4,7 @@
 //! Commas part the calls: s33 is a step of size 33, r63:5 a run of size 63 with budget 5. A b
 //! behind a call is a block of the wrong length. A - stands for no call, and for no number.
 
-use crate::call::{completed, divided, remained, Call, Implementation, Pair, LENGTH};
+use crate::call::{divided, remained, Call, Implementation, Pair, Shown, LENGTH};
 use crate::fields::{number, Fields};
 use crate::Comparison;
 use second::{Answer, Format, Kind};
@@ -13,9 +13,13 @@ use zukemoriha::QUOTIENT_MODULUS;
 /// The number of a list none of whose calls was accepted.
 const NONE: u8 = u8::MAX;
 
-/// A file that shows quotients modulo `shown`, and how many of its lists finish: those come to the
-/// remainder of one call.
-pub fn compare<'a>(pair: Pair<'a>, shown: u32, text: &str) -> (Comparison<'a>, u64) {
+/// A file that shows quotients modulo `modulus`, and how many of its lists finish: those come to the
+/// remainder of one call, and tell of denormals what it tells.
+pub fn compare<'a>(pair: Pair<'a>, modulus: u32, text: &str) -> (Comparison<'a>, u64) {
+    let shown = Shown {
+        modulus,
+        denormal: false,
+    };
     let mut comparison = Comparison::new(pair);
     let mut finished = 0;
     for line in text.lines() {
@@ -26,11 +30,14 @@ pub fn compare<'a>(pair: Pair<'a>, shown: u32, text: &str) -> (Comparison<'a>, u
         assert!(f.is_empty(), "too long: {line}");
 
         let [ours, theirs] = comparison.ask(|who| follow(who, &calls, kind, x, y));
-        let expected = completed(expected, shown, &ours.1);
+        let expected = shown.completed(expected, &ours.1);
         comparison.hold(&line, &[&ours.0, &theirs.0], None);
         comparison.hold(&line, &[ours.1, theirs.1], Some(&expected));
         if expected.number == 0 {
-            let last = remained(expected.value, 0, expected.quotient);
+            let last = Answer {
+                denormal: expected.denormal,
+                ..remained(expected.value, 0, expected.quotient)
+            };
             comparison.call(&Call::Remainder(Format::X87, kind, x, y), Some(&last));
             finished += 1;
         }
@@ -40,8 +47,9 @@ pub fn compare<'a>(pair: Pair<'a>, shown: u32, text: &str) -> (Comparison<'a>, u
 }
 
 /// The answers to the calls of a list, and what they come to: the last accepted value and number,
-/// the steps added up, and the quotients modulo 2^31. A list ends at its first 0, and says 1 then.
-/// Without an accepted call the value is the dividend as given.
+/// the steps added up, and the quotients modulo 2^31; of denormals what the first accepted call
+/// tells. A list ends at its first 0, and says 1 then. Without an accepted call the value is the
+/// dividend as given.
 fn follow(
     who: &dyn Implementation,
     calls: &[&str],
@@ -58,7 +66,11 @@ fn follow(
             let told_part = told.quotient % QUOTIENT_MODULUS;
             let quotient = (sum.quotient + told_part) % QUOTIENT_MODULUS;
             let steps = sum.steps.wrapping_add(told.steps);
-            sum = divided(told.value, told.number, quotient, steps);
+            let first = if sum.number == NONE { &told } else { &sum };
+            sum = Answer {
+                denormal: first.denormal,
+                ..divided(told.value, told.number, quotient, steps)
+            };
         }
         if told.number == 0 {
             sum.says = 1;

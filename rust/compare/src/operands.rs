@@ -61,6 +61,21 @@ impl Draw {
         }
     }
 
+    /// The pair, with a NaN for its dividend, its divisor or both in four of 32 cases. Of two, one in
+    /// three has the other's digits, but for the one that makes it quiet.
+    pub fn with_nans(&mut self, layout: &Layout, (x, y): (u128, u128)) -> (u128, u128) {
+        let digits = [self.digits(), self.digits()];
+        let digits = [digits[0], digits[self.below(3).min(1) as usize]];
+        let [nan_x, nan_y] =
+            digits.map(|digits| layout.nan(self.below(2), self.below(2) == 1, digits));
+        match self.below(32) {
+            0 => (nan_x, y),
+            1 => (x, nan_y),
+            2 | 3 => (nan_x, nan_y),
+            _ => (x, y),
+        }
+    }
+
     /// Any bits, the fields at their ends more often: of every class, x87's own two among them.
     pub fn any(&mut self, layout: &Layout) -> u128 {
         let (ones, leading, digits) = (layout.ones(), layout.leading(), self.digits());

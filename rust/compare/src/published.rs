@@ -53,7 +53,7 @@ fn call(op: &str, format: Format, x: &str, y: &str) -> (u128, Call) {
 /// sign with that of a remainder.
 fn printed(op: &str, format: Format, expected: &str, q: &str, ours: Answer) -> Answer {
     match (expected, ours.number) {
-        ("nan", 0) => return refused(format, NAN),
+        ("nan", 0) => return refused(Layout::of(format).house_nan(), NAN, ours.denormal),
         ("nan", _) => return ours,
         _ => {}
     }

@@ -6,11 +6,14 @@ use crate::formats::{Layout, FORMATS};
 use crate::operands::{Draw, BANDS};
 use crate::Comparison;
 use second::{Answer, Format, Kind};
+use std::cmp::Ordering;
 use std::collections::BTreeMap;
 
 const SEED: u64 = 1;
 /// Pseudo-denormals are drawn by themselves: the pairs of the other formats do not depend on them.
 const PSEUDO_SEED: u64 = 2;
+/// And so are NaNs.
+const NAN_SEED: u64 = 4;
 
 /// How often a thing was seen, by a name that begins with the format.
 pub type Covered = BTreeMap<String, u64>;
@@ -19,12 +22,13 @@ pub type Covered = BTreeMap<String, u64>;
 pub fn compare(pair: Pair, pairs: usize) -> (Comparison, Covered) {
     let mut comparison = Comparison::new(pair);
     let mut covered = Covered::new();
-    let (mut draw, mut pseudo_draw) = (Draw(SEED), Draw(PSEUDO_SEED));
+    let (mut draw, mut pseudo_draw, mut nan_draw) = (Draw(SEED), Draw(PSEUDO_SEED), Draw(NAN_SEED));
     for format in FORMATS.into_iter().cycle().take(pairs) {
         let layout = Layout::of(format);
         let mut note =
             |seen: String| *covered.entry(format!("{format:?} {seen}")).or_insert(0) += 1;
-        let (x, y) = pseudo_draw.with_pseudo_denormals(&layout, draw.pair(&layout));
+        let drawn = pseudo_draw.with_pseudo_denormals(&layout, draw.pair(&layout));
+        let (x, y) = nan_draw.with_nans(&layout, drawn);
         let ((x_class, x_place), (y_class, y_place)) = (layout.sorted(x), layout.sorted(y));
         note(format!("{x_class} by {y_class}"));
         if [x_class, y_class]
@@ -32,6 +36,9 @@ pub fn compare(pair: Pair, pairs: usize) -> (Comparison, Covered) {
             .all(|class| class.ends_with("normal"))
         {
             note(format!("gap {}", band(layout.top(), x_place, y_place)));
+        }
+        if let Some(nans) = nans(&layout, x, y) {
+            note(nans);
         }
         let signs_differ = layout.is_negative(x) != layout.is_negative(y);
         let mut expected = None;
@@ -50,9 +57,66 @@ pub fn compare(pair: Pair, pairs: usize) -> (Comparison, Covered) {
             if let ("pseudo-denormal", Some(how)) = (x_class, returned(&call, told.number)) {
                 note(format!("pseudo-denormal {how}"));
             }
+            if let Some(denormals) = denormals(&layout, &call, &told) {
+                note(denormals);
+            }
         }
     }
     (comparison, covered)
+}
+
+/// What the NaNs of a pair are, and of two how they differ: which one has more digits below the one
+/// that makes it quiet. None where there is no NaN.
+fn nans(layout: &Layout, x: u128, y: u128) -> Option<String> {
+    let [(x_class, _), (y_class, _)] = [x, y].map(|x| layout.sorted(x));
+    let [(x_quiet, x_rest), (y_quiet, y_rest)] = [x, y].map(|x| layout.payload(x));
+    let [x_named, y_named] = [x_quiet, y_quiet].map(|is_quiet| match is_quiet {
+        true => "quiet NaN",
+        false => "signalling NaN",
+    });
+    let beside = |class| match class {
+        "unsupported" => ", beside an unsupported one",
+        _ => "",
+    };
+    match (x_class, y_class) {
+        ("NaN", "NaN") => {
+            let digits = match x_rest.cmp(&y_rest) {
+                Ordering::Less => "fewer",
+                Ordering::Equal => "the same",
+                Ordering::Greater => "more",
+            };
+            let signs = match layout.is_negative(x) == layout.is_negative(y) {
+                true => "one sign",
+                false => "two signs",
+            };
+            Some(format!("{x_named} by {y_named}, {digits} digits, {signs}"))
+        }
+        ("NaN", other) => Some(format!("{x_named} for dividend{}", beside(other))),
+        (other, "NaN") => Some(format!("{y_named} for divisor{}", beside(other))),
+        _ => None,
+    }
+}
+
+/// What a call with a denormal operand tells of it, with its number; and what is told of a pattern
+/// from around the ends of the denormals. None for any other call.
+fn denormals(layout: &Layout, call: &Call, told: &Answer) -> Option<String> {
+    let yes = if told.denormal { "yes" } else { "no" };
+    let (operation, x, y) = match *call {
+        Call::Remainder(_, _, x, y) => ("remainder", x, y),
+        Call::Remquo(_, _, x, y) => ("remquo", x, y),
+        Call::Step(_, _, x, y, _) => ("step", x, y),
+        Call::Run(_, _, _, x, y, _) => ("run", x, y),
+        Call::Scale(_, x, _) => ("scaling", x, x),
+        Call::Split(_, x) => ("splitting", x, x),
+        Call::Denormal(_, x) => {
+            let pattern = layout.near_denormals(x)?;
+            return Some(format!("denormal {yes}, {pattern}"));
+        }
+        Call::Nan(..) => return None,
+    };
+    let is_one = |x| layout.sorted(x).0.ends_with("denormal");
+    let told = || format!("denormal {yes}, {operation} with number {}", told.number);
+    (is_one(x) || is_one(y)).then(told)
 }
 
 /// How an accepted call comes to return its dividend, whatever else it is given.
@@ -68,7 +132,10 @@ fn returned(call: &Call, number: u8) -> Option<&'static str> {
 fn with_sign(remainder: &Answer, signs_differ: bool) -> Answer {
     let sign = if signs_differ { -1 } else { 1 };
     let quotient = (remainder.quotient as i32).wrapping_mul(sign);
-    signed(remainder.value, remainder.number, quotient)
+    Answer {
+        denormal: remainder.denormal,
+        ..signed(remainder.value, remainder.number, quotient)
+    }
 }
 
 fn quotient_band(quotient: i32, signs_differ: bool) -> String {
@@ -94,7 +161,7 @@ fn band(top: u64, x: u64, y: u64) -> String {
 }
 
 /// A scaling and a splitting; of both kinds a remainder and then remquo; in x87 also a step and a run
-/// of both kinds.
+/// of both kinds; whether either is denormal, and which NaN there is.
 fn calls(format: Format, draw: &mut Draw, x: u128, y: u128) -> Vec<Call> {
     let power = power(draw, &Layout::of(format), x);
     let mut calls = vec![Call::Scale(format, x, power), Call::Split(format, x)];
@@ -107,6 +174,8 @@ fn calls(format: Format, draw: &mut Draw, x: u128, y: u128) -> Vec<Call> {
             calls.push(Call::Run(kind, size, budget, x, y, length));
         }
     }
+    calls.extend([x, y].map(|x| Call::Denormal(format, x)));
+    calls.push(Call::Nan(format, x, y));
     calls
 }
 

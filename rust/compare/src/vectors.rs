@@ -1,31 +1,40 @@
 //! Computed vectors: files of remainders, with the quotient's magnitude or with its sign, of steps,
-//! runs, scalings and splittings.
+//! runs, scalings and splittings, of denormals and NaNs.
 
-use crate::call::{completed, divided, remained, scaled, signed, split, Call, Pair, LENGTH};
+use crate::call::{
+    divided, is_denormal, remained, scaled, signed, split, Call, Pair, Shown, LENGTH,
+};
 use crate::fields::{format_named, number, Fields};
 use crate::Comparison;
 use second::{Answer, Format, Kind};
 
-/// A file by its name, which is OPERATION-FORMAT.txt, and its text. It shows the magnitudes of
-/// quotients modulo `shown`.
-pub fn compare<'a>(pair: Pair<'a>, name: &str, shown: u32, text: &str) -> Comparison<'a> {
+/// A file by its name, which is OPERATION-FORMAT.txt, what it shows, and its text.
+pub fn compare<'a>(pair: Pair<'a>, name: &str, shown: Shown, text: &str) -> Comparison<'a> {
     let parts = name.trim_end_matches(".txt").split_once('-');
     let (operation, format) = parts.expect("OPERATION-FORMAT.txt");
     let mut comparison = Comparison::new(pair);
     for line in text.lines() {
         let mut fields = Fields(line.split_whitespace());
-        for (call, expected) in cases(operation, format_named(format), &mut fields) {
-            let answers = comparison.ask(|who| who.answer(&call));
-            let expected = completed(expected, shown, &answers[0]);
-            comparison.hold(&call, &answers, Some(&expected));
+        let mut cases = cases(operation, format_named(format), &mut fields);
+        if shown.denormal && !matches!(operation, "denormal" | "nan") {
+            let denormal = fields.yes();
+            cases
+                .iter_mut()
+                .for_each(|(_, told)| told.denormal = denormal);
         }
         assert!(fields.is_empty(), "too long: {line}");
+        for (call, expected) in cases {
+            let answers = comparison.ask(|who| who.answer(&call));
+            let expected = shown.completed(expected, &answers[0]);
+            comparison.hold(&call, &answers, Some(&expected));
+        }
         comparison.lines += 1;
     }
     comparison
 }
 
-/// The calls of a line with their answers. The fields are read in the order of this text.
+/// The calls of a line with their answers, but for a last field that tells of denormal operands. The
+/// fields are read in the order of this text.
 fn cases(operation: &str, format: Format, f: &mut Fields) -> Vec<(Call, Answer)> {
     let x = f.pattern(format);
     match operation {
@@ -65,6 +74,11 @@ fn cases(operation: &str, format: Format, f: &mut Fields) -> Vec<(Call, Answer)>
         "split" => {
             let told = split(f.pattern(format), f.number(), f.number());
             vec![(Call::Split(format, x), told)]
+        }
+        "denormal" => vec![(Call::Denormal(format, x), is_denormal(f.yes()))],
+        "nan" => {
+            let y = f.pattern(format);
+            vec![(Call::Nan(format, x, y), remained(f.pattern(format), 0, 0))]
         }
         _ => panic!("no operation: {operation}"),
     }

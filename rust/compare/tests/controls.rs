@@ -4,7 +4,7 @@
 mod altered;
 mod archive;
 
-use altered::{altered_text, shortened, Altered, Answerer, Answering, Change, CHANGES};
+use altered::{altered_text, shortened, Altered, Answerer, Answering, Change, CHANGES, OPERATIONS};
 use archive::Archive;
 use compare::stems::Difference;
 use compare::writes::Gauges;
@@ -12,6 +12,7 @@ use compare::*;
 use zukemoriha::binary64::HOUSE_NAN;
 use zukemoriha::Answer::{Finished, Partial};
 use zukemoriha::Refusal::{BadSize, ZeroDivisor};
+use zukemoriha::{x87, Block, Refused, Stepped, X87};
 
 /// The library, with a stem file that is mended before it is judged, and a roller's readings from
 /// which the origin is taken in another way.
@@ -140,27 +141,22 @@ impl Implementation for Writing {
     }
 }
 
-/// What a file shows quotients modulo.
-fn shown(path: &str) -> u32 {
-    if path.contains("octants/") {
-        SHOWN_MODULUS
-    } else {
-        QUOTIENT_MODULUS
-    }
-}
-
 /// The differences in a file.
 fn in_file(pair: Pair, path: &str, text: &str) -> u64 {
     let name = path.rsplit('/').next().unwrap();
     match name.split('-').next().unwrap() {
         "published" => published::compare(pair, text, "").0.different,
-        "list" => lists::compare(pair, shown(path), text).0.different,
+        "list" => {
+            lists::compare(pair, Shown::by(path).modulus, text)
+                .0
+                .different
+        }
         "fold" => folds::compare(pair, text).different,
-        _ => vectors::compare(pair, name, shown(path), text).different,
+        _ => vectors::compare(pair, name, Shown::by(path), text).different,
     }
 }
 
-const FILES: [&str; 13] = [
+const FILES: [&str; 20] = [
     "computed/rem-binary16.txt",
     "computed/step-x87.txt",
     "computed/run-x87.txt",
@@ -170,6 +166,13 @@ const FILES: [&str; 13] = [
     "published/published-gcc.txt",
     "computed/remquo-binary32.txt",
     "computed/remquo-x87.txt",
+    "computed/denormal-binary64.txt",
+    "computed/nan-x87.txt",
+    "computed/plain/rem-binary32.txt",
+    "computed/plain/step-x87.txt",
+    "computed/plain/run-x87.txt",
+    "computed/plain/scale-x87.txt",
+    "computed/plain/split-binary16.txt",
     "computed/octants/rem-binary64.txt",
     "computed/octants/step-x87.txt",
     "computed/octants/run-x87.txt",
@@ -184,13 +187,12 @@ fn one_wrong_answer_is_noticed() {
             let different = in_file([&altered(), &Second], path, &read(path));
             assert!(different > 0, "{what}, {path}");
         }
-        // a remainder may be noticed once more where remquo is held to it; then remquo, and a scaling
-        let different = sequence::compare([&altered(), &Second], 100).0.different;
-        assert!(different > 0, "{what}, sequence");
-        for left in [6, 7] {
-            let altered = Altered::later_answer(change, left);
+        for (operation, is_one) in OPERATIONS {
+            let altered = Altered::answer_to(is_one, change);
             let different = sequence::compare([&altered, &Second], 100).0.different;
-            assert_eq!(different, 1, "{what}, sequence, {left}");
+            // a remainder may be noticed once more where remquo is held to it
+            let most = if operation == "rem" { 2 } else { 1 };
+            assert!((1..=most).contains(&different), "{what}, {operation}");
         }
         let different = half::compare([&altered(), &Second], &[0x3C00], &|_| ()).different;
         assert_eq!(different, 1, "{what}, half");
@@ -632,21 +634,31 @@ fn another_written_file_is_noticed() {
 #[test]
 fn one_wrong_field_of_a_file_is_noticed() {
     for (path, line, fields) in [
-        ("computed/rem-x87.txt", 0, 2..7),
+        ("computed/rem-x87.txt", 0, 2..8),
         ("computed/remquo-binary16.txt", 0, 2..7),
         ("computed/remquo-binary32.txt", 1, 2..7),
         ("computed/remquo-binary64.txt", 2, 2..7),
         ("computed/remquo-x87.txt", 3, 2..7),
-        ("computed/step-x87.txt", 0, 4..8),
-        ("computed/run-x87.txt", 0, 5..9),
+        ("computed/step-x87.txt", 0, 4..9),
+        ("computed/run-x87.txt", 0, 5..10),
         ("computed/list-x87.txt", 0, 4..9),
         ("computed/list-x87.txt", 2, 4..9),
+        ("computed/list-x87.txt", 200, 4..9),
+        ("computed/denormal-binary16.txt", 0, 1..2),
+        ("computed/denormal-x87.txt", 1, 1..2),
+        ("computed/nan-binary32.txt", 0, 2..3),
+        ("computed/nan-x87.txt", 1, 2..3),
+        ("computed/plain/rem-x87.txt", 0, 2..7),
+        ("computed/plain/step-x87.txt", 0, 4..8),
+        ("computed/plain/run-x87.txt", 0, 5..9),
+        ("computed/plain/scale-binary32.txt", 1, 2..5),
+        ("computed/plain/split-binary16.txt", 3, 1..4),
         ("computed/octants/rem-x87.txt", 0, 2..7),
         ("computed/octants/step-x87.txt", 0, 4..8),
         ("computed/octants/run-x87.txt", 0, 5..9),
         ("computed/octants/list-x87.txt", 0, 4..9),
-        ("computed/scale-binary32.txt", 1, 2..5),
-        ("computed/split-binary16.txt", 3, 1..4),
+        ("computed/scale-binary32.txt", 1, 2..6),
+        ("computed/split-binary16.txt", 3, 1..5),
         ("computed/fold-binary64.txt", 0, 2..4),
         ("computed/fold-binary64.txt", 1, 1..3),
         ("published/published-gcc.txt", 0, 4..6),
@@ -666,6 +678,9 @@ fn a_missing_case_is_noticed() {
     for (path, lines) in [
         ("computed/rem-x87.txt", 1),
         ("computed/remquo-x87.txt", 1),
+        ("computed/denormal-x87.txt", 1),
+        ("computed/nan-x87.txt", 1),
+        ("computed/plain/rem-x87.txt", 1),
         ("computed/octants/rem-x87.txt", 1),
         ("computed/list-x87.txt", 1),
         ("computed/fold-binary64.txt", 2),
@@ -674,10 +689,10 @@ fn a_missing_case_is_noticed() {
         let name = path.rsplit('/').next().unwrap();
         let text = read(path);
         let [all, less] = [text.clone(), shortened(&text, lines)].map(|text| match name {
-            "list-x87.txt" => lists::compare(PAIR, shown(path), &text).0.lines,
+            "list-x87.txt" => lists::compare(PAIR, Shown::by(path).modulus, &text).0.lines,
             "fold-binary64.txt" => folds::compare(PAIR, &text).lines,
             "published-ruby.txt" => published::compare(PAIR, &text, "").0.lines,
-            _ => vectors::compare(PAIR, name, shown(path), &text).lines,
+            _ => vectors::compare(PAIR, name, Shown::by(path), &text).lines,
         });
         assert_eq!(less + lines as u64, all, "{path}");
     }
@@ -709,9 +724,9 @@ fn a_missing_case_is_noticed() {
 fn a_wrong_cell_is_noticed() {
     let (_, right) = sequence::compare(PAIR, 100);
     let changes: [Change<Answer>; 2] = [|answer| answer.number = 5, |answer| answer.says ^= 2];
+    let (_, is_scaling) = OPERATIONS[0];
     for change in changes {
-        // a scaling
-        let both = [(); 2].map(|_| Altered::later_answer(change, 7));
+        let both = [(); 2].map(|_| Altered::answer_to(is_scaling, change));
         let (comparison, wrong) = sequence::compare([&both[0], &both[1]], 100);
         assert_eq!(comparison.different, 0);
         assert_ne!(wrong, right);
@@ -865,17 +880,38 @@ fn a_wrong_output_of_the_line_program_is_noticed() {
 /// Bytes from one before the block on, and what the call returns.
 #[test]
 fn a_block_that_is_written_wrongly_is_noticed() {
+    let zero = X87 {
+        significand: 0,
+        word: 0,
+    };
+    let stepped = |answer, quotient| Stepped {
+        block: Block {
+            value: zero,
+            answer,
+            octant: 0,
+            steps: 0,
+            quotient,
+        },
+        denormal: false,
+    };
+    let refused = Refused {
+        refusal: BadSize,
+        value: x87::HOUSE_NAN,
+        denormal: false,
+    };
     for (written, told, number) in [
-        (0..0, Err(BadSize), 6),
-        (1..21, Ok(Finished), 0),
-        (20..21, Err(BadSize), MISWROTE),
-        (0..21, Ok(Finished), MISWROTE),
-        (1..22, Ok(Finished), MISWROTE),
-        (1..21, Ok(Partial), MISWROTE),
+        (0..0, Err(refused), 6),
+        (1..21, Ok(stepped(Finished, 0)), 0),
+        (20..21, Err(refused), MISWROTE),
+        (0..21, Ok(stepped(Finished, 0)), MISWROTE),
+        (1..22, Ok(stepped(Finished, 0)), MISWROTE),
+        // another number, or another quotient than in the bytes
+        (1..21, Ok(stepped(Partial, 0)), MISWROTE),
+        (1..21, Ok(stepped(Finished, 8)), MISWROTE),
         // without the quotient, and a place further
-        (1..17, Ok(Finished), MISWROTE),
-        (2..22, Ok(Finished), MISWROTE),
-        (0..0, Ok(Finished), MISWROTE),
+        (1..17, Ok(stepped(Finished, 0)), MISWROTE),
+        (2..22, Ok(stepped(Finished, 0)), MISWROTE),
+        (0..0, Ok(stepped(Finished, 0)), MISWROTE),
     ] {
         let answer = lent(20, |room, block| {
             room[block.start - 1..][written.clone()].fill(0);

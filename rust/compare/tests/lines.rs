@@ -3,6 +3,7 @@
 //! lines.
 
 use compare::lines::{self, BUFFER};
+use compare::read_bytes;
 use std::fs::{self, File};
 use std::io::{Read, Write};
 use std::os::unix::io::OwnedFd;
@@ -49,6 +50,16 @@ fn told(input: &[u8], written: &[u8]) -> [usize; 5] {
     let text = String::from_utf8_lossy(written);
     let ends = [" 0", " 3", " 4", " 5", "bad line"];
     ends.map(|end| text.lines().filter(|line| line.ends_with(end)).count())
+}
+
+/// Computed lines, NaNs of every kind among them: what they expect is what is expected here, and what
+/// the program writes.
+#[test]
+fn computed_lines() {
+    let [input, output] = ["in", "out"].map(|end| read_bytes(&format!("computed/lines.{end}")));
+    for output in [output, on_file("computed", &input)] {
+        assert_eq!(told(&input, &output), [103, 92, 11, 8, 61]);
+    }
 }
 
 /// The output that the program is held to when it is proved is not its own, and its input has lines

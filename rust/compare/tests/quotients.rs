@@ -6,6 +6,7 @@ mod altered;
 
 use altered::{Answerer, Answering, Change};
 use compare::*;
+use zukemoriha::{Block, Stepped};
 use Format::{Binary16, Binary32, Binary64, X87};
 
 /// The differences in a file of vectors, by its name.
@@ -16,7 +17,7 @@ fn in_file(pair: Pair, name: &str) -> u64 {
 fn in_text(pair: Pair, name: &str, text: &str) -> u64 {
     match name {
         "list-x87.txt" => lists::compare(pair, QUOTIENT_MODULUS, text).0.different,
-        _ => vectors::compare(pair, name, QUOTIENT_MODULUS, text).different,
+        _ => vectors::compare(pair, name, Shown::by(name), text).different,
     }
 }
 
@@ -234,17 +235,18 @@ impl Implementation for Blocks {
 
     fn answer(&self, call: &Call) -> Answer {
         let answer = Library.answer(call);
-        let told = match (call, answer.number) {
-            (Call::Step(..) | Call::Run(..), 0) => zukemoriha::Answer::Finished,
-            (Call::Step(..) | Call::Run(..), 1) => zukemoriha::Answer::Partial,
-            (Call::Step(..) | Call::Run(..), 7) => zukemoriha::Answer::Spent,
-            _ => return answer,
-        };
+        let is_step = matches!(call, Call::Step(..) | Call::Run(..));
+        if !is_step || !matches!(answer.number, 0 | 1 | 7) {
+            return answer;
+        }
         let mut bytes = second::block(&answer);
         (self.0)(&mut bytes);
         lent(LENGTH, |room, block| {
             room[block].copy_from_slice(&bytes);
-            Ok(told)
+            let bytes = bytes.try_into().unwrap();
+            let block = Block::from_bytes(&bytes).unwrap();
+            let denormal = answer.denormal;
+            Ok(Stepped { block, denormal })
         })
     }
 }

@@ -1,9 +1,11 @@
-//! Runs that the generated sequence does not draw: spent with quotients, and the longest ones.
+//! Runs that the generated sequence does not draw: spent with quotients, the longest ones, and runs
+//! that are continued where another one was spent.
 
 mod altered;
 
 use altered::{Altered, CHANGES};
-use compare::{Call, Comparison, Kind, Pair, Second, PAIR, SHOWN_MODULUS};
+use compare::{Answer, Call, Comparison, Kind, Pair, Second, PAIR};
+use compare::{QUOTIENT_MODULUS, SHOWN_MODULUS};
 
 const LENGTH: usize = 20;
 const SPENT: u8 = 7;
@@ -114,6 +116,81 @@ fn the_longest_runs_take_their_steps() {
     );
 }
 
+type Join = fn(bool, bool) -> bool;
+
+/// Dividends that are pseudo-denormals, by divisors that are denormal and others that are not, and some
+/// of the pairs above.
+fn joined_pairs() -> impl Iterator<Item = (u128, u128)> {
+    let divisors = [
+        1 << 64 | 1 << 63,
+        whole(3),
+        0x7FFF << 64 | 1 << 63,
+        25,
+        3 << 62,
+    ];
+    let dividends = [1 << 63, 3 << 62, u128::from(u64::MAX)].into_iter();
+    let signed = dividends.flat_map(|x| [x, 1 << 79 | x]);
+    let pseudo = signed.flat_map(move |x| divisors.map(|y| (x, y)));
+    pseudo.chain(pairs().step_by(7))
+}
+
+/// Runs of every small budget, continued from the values that they have reached if they are spent,
+/// against the whole runs: steps and quotients are added, and `join` makes one of what the two tell of
+/// denormals. Returns also how often the first of two told yes alone, and how often both did.
+fn joined_runs(pair: Pair, join: Join) -> (Comparison, [u32; 2]) {
+    let mut comparison = Comparison::new(pair);
+    let mut told = [0; 2];
+    for (x, y) in joined_pairs() {
+        for budget in 0..4 {
+            let run = |budget, x| Call::Run(Kind::Nearest, 63, budget, x, y, LENGTH);
+            let joined = comparison.ask(|who| {
+                let first = who.answer(&run(budget, x));
+                if first.number != SPENT {
+                    return (first, None);
+                }
+                let rest = who.answer(&run(u32::MAX, first.value));
+                let joined = Answer {
+                    quotient: (first.quotient + rest.quotient) % QUOTIENT_MODULUS,
+                    steps: first.steps + rest.steps,
+                    denormal: join(first.denormal, rest.denormal),
+                    ..rest
+                };
+                (joined, Some(rest.denormal))
+            });
+            let whole = comparison.call(&run(u32::MAX, x), None);
+            let [ours, theirs] = joined.map(|(joined, _)| joined);
+            comparison.hold(&(budget, x, y), &[ours, theirs], Some(&whole));
+            if let (true, Some(rest)) = (whole.denormal, joined[0].1) {
+                told[usize::from(rest)] += 1;
+            }
+        }
+    }
+    (comparison, told)
+}
+
+/// The first run alone is given the dividend as it was.
+#[test]
+fn joined_runs_tell_what_the_first_one_tells() {
+    let (comparison, told) = joined_runs(PAIR, |first, _| first);
+    let (answers, different) = (comparison.answers, comparison.different);
+    println!("joined runs: {answers} answers, {different} different; denormal {told:?}");
+    assert_eq!((answers, different, told), (9_880, 0, [18, 1_509]));
+}
+
+/// The differences that this prints are wanted.
+#[test]
+fn another_join_is_noticed() {
+    let joins: [(&str, Join); 4] = [
+        ("the last one's", |_, rest| rest),
+        ("both", |first, rest| first && rest),
+        ("never", |_, _| false),
+        ("always", |_, _| true),
+    ];
+    for (what, join) in joins {
+        assert!(joined_runs(PAIR, join).0.different > 0, "{what}");
+    }
+}
+
 /// The differences that this prints are wanted.
 #[test]
 fn a_wrong_run_is_noticed() {
@@ -124,6 +201,9 @@ fn a_wrong_run_is_noticed() {
         let altered = Altered::answer(change);
         let (comparison, _) = longest_runs([&altered, &Second]);
         assert_eq!(comparison.different, 1, "{what}, longest");
+        let altered = Altered::answer(change);
+        let (comparison, _) = joined_runs([&altered, &Second], |first, _| first);
+        assert!(comparison.different > 0, "{what}, joined");
     }
 }
 

@@ -7,10 +7,10 @@ use std::ops::RangeInclusive;
 pub(crate) const FINISHED: u8 = 0;
 pub(crate) const PARTIAL: u8 = 1;
 const UNSUPPORTED: u8 = 2;
-const NAN: u8 = 3;
+pub(crate) const NAN: u8 = 3;
 const INFINITE: u8 = 4;
 const ZERO_DIVISOR: u8 = 5;
-const BAD_SIZE: u8 = 6;
+pub(crate) const BAD_SIZE: u8 = 6;
 pub(crate) const SPENT: u8 = 7;
 const ZERO_SPLIT: u8 = 8;
 

@@ -23,13 +23,13 @@ pub(crate) struct Layout {
     exponent_bits: u32,
     /// The power of two that the last digit of a denormal counts.
     pub(crate) smallest_place: i32,
-    /// The NaN that stands for the value under a refusal.
+    /// The NaN that stands for the value under a refusal, but for one by a NaN.
     pub(crate) house_nan: u128,
 }
 
 impl Layout {
     /// The leading digit of a normal significand.
-    fn leading(&self) -> u128 {
+    pub(crate) fn leading(&self) -> u128 {
         1 << (self.precision - 1)
     }
 
@@ -78,11 +78,14 @@ impl Magnitude {
     }
 }
 
-/// A pattern that has been read. The magnitude has a meaning only in zeros and finite values.
+/// A pattern that has been read. The magnitude has a meaning only in zeros and finite values; of a
+/// NaN its significand has one.
 #[derive(Clone, Copy, Debug)]
 pub(crate) struct Operand {
     pub(crate) class: Class,
     pub(crate) negative: bool,
+    /// The exponent field.
+    pub(crate) field: u128,
     pub(crate) magnitude: Magnitude,
 }
 
@@ -124,6 +127,7 @@ impl Format {
         Operand {
             class,
             negative,
+            field,
             magnitude: Magnitude { significand, place },
         }
     }
@@ -161,7 +165,7 @@ impl Format {
     }
 
     /// Lays the fields side by side; a leading digit that is not stored falls away.
-    fn pattern(self, negative: bool, field: u128, significand: u128) -> u128 {
+    pub(crate) fn pattern(self, negative: bool, field: u128, significand: u128) -> u128 {
         let layout = self.layout();
         let sign_and_field = u128::from(negative) << layout.exponent_bits | field;
         sign_and_field << layout.stored | significand & layout.stored_mask()

@@ -8,12 +8,13 @@ mod block;
 mod checks;
 mod difference;
 mod division;
+mod facts;
 mod format;
 mod scaling;
 pub mod stem;
 
-use checks::{first_refusal, Task, FINISHED, PARTIAL, SPENT};
-use format::Class;
+use checks::{first_refusal, Task, BAD_SIZE, FINISHED, NAN, PARTIAL, SPENT};
+use format::{Class, Operand};
 
 pub use block::{block, BLOCK_LENGTH};
 pub use division::{QUOTIENT_MODULUS, SHOWN_MODULUS};
@@ -31,13 +32,14 @@ pub enum Kind {
     Nearest,
 }
 
-/// What a call tells. What an operation does not tell is 0. Under a refusal the value is the
-/// house NaN of the format and all else is 0.
+/// What a call tells. What an operation does not tell is 0. Under a refusal the value is a NaN,
+/// quotients, steps and exponent are 0, and scaling says exact.
 #[derive(Clone, Copy, Debug, PartialEq, Eq)]
 pub struct Answer {
     /// 0 finished, 1 partial, 7 budget spent; any other number is a refusal.
     pub number: u8,
-    /// The pattern of the result: the ordinary one, where x87 has two for a value.
+    /// The pattern of the result: the ordinary one, where x87 has two for a value. Under number 3
+    /// it is that of the NaN operand, quiet, and under any other refusal the house NaN.
     pub value: u128,
     /// The quotient's magnitude modulo 2^31, or the part of it that was taken.
     pub quotient: u32,
@@ -49,6 +51,8 @@ pub struct Answer {
     pub says: u8,
     /// The place of the leading one (splitting).
     pub exponent: i32,
+    /// Whether an operand as given was denormal: every operation tells it, but under number 6.
+    pub denormal: bool,
 }
 
 impl Answer {
@@ -61,37 +65,54 @@ impl Answer {
             steps: 0,
             says: scaling::EXACT,
             exponent: 0,
+            denormal: false,
         }
     }
 
-    fn refused(format: Format, number: u8) -> Answer {
-        Answer::new(number, format.layout().house_nan)
+    fn refused(format: Format, number: u8, operands: &[Operand]) -> Answer {
+        let value = match number {
+            NAN => facts::nan(format, operands),
+            _ => format.layout().house_nan,
+        };
+        Answer::new(number, value).on(operands)
     }
+
+    /// The same, with what it tells of the operands.
+    fn on(self, operands: &[Operand]) -> Answer {
+        let denormal = self.number != BAD_SIZE && facts::any_denormal(operands);
+        Answer { denormal, ..self }
+    }
+}
+
+/// Whether a pattern is that of a denormal, the pseudo-denormals of x87 among them.
+pub fn denormal(format: Format, x: u128) -> bool {
+    facts::any_denormal(&[format.read(x)])
+}
+
+/// The NaN that number 3 speaks of where `x` and `y` are the operands, quiet; the house NaN where
+/// neither is a NaN. It does not matter here whether the other one is unsupported.
+pub fn nan(format: Format, x: u128, y: u128) -> u128 {
+    facts::nan(format, &[format.read(x), format.read(y)])
 }
 
 /// The whole remainder of `x` by `y` in one call: number, value and quotient.
 pub fn remainder(format: Format, kind: Kind, x: u128, y: u128) -> Answer {
     let (x, y) = (format.read(x), format.read(y));
     if let Some(number) = first_refusal(Task::Divide, None, x, Some(y)) {
-        return Answer::refused(format, number);
+        return Answer::refused(format, number, &[x, y]);
     }
     let (value, quotient) = division::whole_remainder(format, kind, x, y);
     Answer {
         quotient,
-        ..Answer::new(FINISHED, value)
+        ..Answer::new(FINISHED, value).on(&[x, y])
     }
 }
 
 /// The same remainder: number, value and signed quotient, which is below zero where one operand is
 /// and the other is not.
 pub fn remquo(format: Format, kind: Kind, x: u128, y: u128) -> Answer {
-    let Answer {
-        number,
-        value,
-        quotient,
-        ..
-    } = remainder(format, kind, x, y);
-    let magnitude = quotient as i32;
+    let unsigned = remainder(format, kind, x, y);
+    let magnitude = unsigned.quotient as i32;
     let signed = if format.read(x).negative == format.read(y).negative {
         magnitude
     } else {
@@ -99,7 +120,8 @@ pub fn remquo(format: Format, kind: Kind, x: u128, y: u128) -> Answer {
     };
     Answer {
         signed,
-        ..Answer::new(number, value)
+        quotient: 0,
+        ..unsigned
     }
 }
 
@@ -118,9 +140,9 @@ pub fn run(kind: Kind, size: u32, budget: u32, x: u128, y: u128) -> Answer {
     let format = Format::X87;
     let (x, y) = (format.read(x), format.read(y));
     if let Some(number) = first_refusal(Task::Divide, Some(size), x, Some(y)) {
-        return Answer::refused(format, number);
+        return Answer::refused(format, number, &[x, y]);
     }
-    let mut answer = Answer::new(SPENT, format.ordinary(x));
+    let mut answer = Answer::new(SPENT, format.ordinary(x)).on(&[x, y]);
     while answer.number == SPENT && answer.steps < budget {
         let step = division::step(format, kind, size, format.read(answer.value), y);
         answer.value = step.value;
@@ -137,7 +159,7 @@ pub fn run(kind: Kind, size: u32, budget: u32, x: u128, y: u128) -> Answer {
 pub fn scale(format: Format, x: u128, power: i32) -> Answer {
     let operand = format.read(x);
     if let Some(number) = first_refusal(Task::Scale, None, operand, None) {
-        return Answer::refused(format, number);
+        return Answer::refused(format, number, &[operand]);
     }
     if operand.class != Class::Finite {
         return Answer::new(FINISHED, x);
@@ -145,7 +167,7 @@ pub fn scale(format: Format, x: u128, power: i32) -> Answer {
     let (value, says) = scaling::scale(format, operand, power);
     Answer {
         says,
-        ..Answer::new(FINISHED, value)
+        ..Answer::new(FINISHED, value).on(&[operand])
     }
 }
 
@@ -153,19 +175,20 @@ pub fn scale(format: Format, x: u128, power: i32) -> Answer {
 pub fn split(format: Format, x: u128) -> Answer {
     let x = format.read(x);
     if let Some(number) = first_refusal(Task::Split, None, x, None) {
-        return Answer::refused(format, number);
+        return Answer::refused(format, number, &[x]);
     }
     let (value, exponent) = scaling::split(format, x);
     Answer {
         exponent,
-        ..Answer::new(FINISHED, value)
+        ..Answer::new(FINISHED, value).on(&[x])
     }
 }
 
 /// A list of remainders: a result and a quotient byte a place, and how many places are marked.
 #[derive(Clone, Debug, PartialEq, Eq)]
 pub struct Folded {
-    /// The remainders; the house NaN where the dividend is a NaN or infinite.
+    /// The remainders. In their place a NaN dividend stands itself, quiet, and the house NaN for an
+    /// infinite one.
     pub results: Vec<u64>,
     /// The quotients modulo 8; 255 where the dividend is a NaN or infinite.
     pub quotients: Vec<u8>,

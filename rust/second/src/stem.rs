@@ -3,6 +3,7 @@
 //! A file is read and written as a row of numbers, little-endian: mark, version, kind, count,
 //! period, origin, and two for each point.
 
+use crate::checks::FINISHED;
 use crate::difference::difference;
 use crate::format::{Class, Format, Operand};
 use crate::Kind;
@@ -100,15 +101,15 @@ pub fn fold(gauge: Gauge, point: Point) -> Result<Point, u8> {
     } else {
         point.reading.into()
     };
-    // A dividend that is not finite is refused by the remainder, whose value is the house NaN then.
-    let left = crate::remainder(
-        Format::Binary64,
-        Kind::Truncated,
-        dividend,
-        gauge.period.into(),
-    );
+    let format = Format::Binary64;
+    // The period is good, so only a dividend that is not finite is refused.
+    let left = crate::remainder(format, Kind::Truncated, dividend, gauge.period.into());
+    let folded = match left.number {
+        FINISHED => left.value,
+        _ => format.layout().house_nan,
+    };
     Ok(Point {
-        reading: left.value as u64,
+        reading: folded as u64,
         ..point
     })
 }

@@ -1,9 +1,9 @@
 //! Twelve readings worked out by hand, which show quotients modulo 8, whole quotients, the refusals
-//! with the order they come in, and pseudo-denormals.
+//! with the order they come in, pseudo-denormals, and what is told of denormals and NaNs.
 
 use second::{
-    block, fold, remainder, remquo, run, scale, split, step, Answer, Format, Kind, BLOCK_LENGTH,
-    QUOTIENT_MODULUS, SHOWN_MODULUS,
+    block, denormal, fold, nan, remainder, remquo, run, scale, split, step, Answer, Format, Kind,
+    BLOCK_LENGTH, QUOTIENT_MODULUS, SHOWN_MODULUS,
 };
 use Format::{Binary16, Binary32, Binary64, X87};
 use Kind::{Nearest, Truncated};
@@ -19,6 +19,7 @@ const SMALLEST: u128 = 1;
 const LARGEST: u128 = 0x7FFE_FFFF_FFFF_FFFF_FFFF;
 const INFINITY: u128 = 0x7FFF_8000_0000_0000_0000;
 const NAN: u128 = 0x7FFF_8000_0000_0000_0001;
+const QUIET: u128 = 0x7FFF_C000_0000_0000_0001;
 const UNSUPPORTED: u128 = 0x3FFF_0000_0000_0000_0001;
 const NEGATIVE: u128 = 1 << 79;
 
@@ -39,6 +40,15 @@ fn answer(number: u8, value: u128, quotient: u32, steps: u32) -> Answer {
         steps,
         says: 0,
         exponent: 0,
+        denormal: false,
+    }
+}
+
+/// The same where an operand was denormal.
+fn of_denormal(answer: Answer) -> Answer {
+    Answer {
+        denormal: true,
+        ..answer
     }
 }
 
@@ -62,14 +72,17 @@ fn scaled(value: u128, says: u8) -> Answer {
     }
 }
 
-fn refused(format: Format, number: u8) -> Answer {
-    let house_nan = match format {
+fn house_nan(format: Format) -> u128 {
+    match format {
         Binary16 => 0x7E00,
         Binary32 => 0x7FC0_0000,
         Binary64 => 0x7FF8_0000_0000_0000,
         X87 => 0x7FFF_C000_0000_0000_0000,
-    };
-    answer(number, house_nan, 0, 0)
+    }
+}
+
+fn refused(format: Format, number: u8) -> Answer {
+    answer(number, house_nan(format), 0, 0)
 }
 
 #[test]
@@ -89,15 +102,14 @@ fn readings_1_to_6_remainders() {
         // 2^75 by 2^-75.
         (Truncated, 0x6500_0000, 0x1A00_0000, 0x0000_0000, 0),
         (Nearest, 0x6500_0000, 0x1A00_0000, 0x0000_0000, 0),
-        // Two denormals.
-        (Truncated, 0x0000_0002, 0x0000_0003, 0x0000_0002, 0),
-        (Nearest, 0x0000_0002, 0x0000_0003, 0x8000_0001, 1),
     ];
+    let told = |kind, x, y| shown(remainder(Binary32, kind, x, y));
     for (kind, x, y, value, quotient) in readings {
-        assert_eq!(
-            shown(remainder(Binary32, kind, x, y)),
-            answer(0, value, quotient, 0)
-        );
+        assert_eq!(told(kind, x, y), answer(0, value, quotient, 0));
+    }
+    // Two denormals.
+    for (kind, value, quotient) in [(Truncated, 2, 0), (Nearest, 0x8000_0001, 1)] {
+        assert_eq!(told(kind, 2, 3), of_denormal(answer(0, value, quotient, 0)));
     }
 }
 
@@ -269,8 +281,8 @@ fn a_block_has_twenty_bytes() {
 
 #[test]
 fn readings_9_and_10_scaling() {
-    assert_eq!(scale(Binary32, 1, -1), scaled(0, 2));
-    assert_eq!(scale(Binary32, 3, -1), scaled(2, 1));
+    assert_eq!(scale(Binary32, 1, -1), of_denormal(scaled(0, 2)));
+    assert_eq!(scale(Binary32, 3, -1), of_denormal(scaled(2, 1)));
     assert_eq!(scale(Binary32, 0x3F80_0000, 127), scaled(0x7F00_0000, 0));
     assert_eq!(scale(Binary32, 0x3F80_0000, 128), scaled(0x7F80_0000, 1));
 }
@@ -281,9 +293,10 @@ fn readings_11_and_12_steps() {
         let run = |budget, x, y| run(kind, 32, budget, x, y);
         assert_eq!(run(u32::MAX, power_of_two(63), ONE), answer(0, ZERO, 0, 1));
         assert_eq!(run(u32::MAX, power_of_two(64), ONE), answer(0, ZERO, 0, 2));
-        assert_eq!(run(u32::MAX, LARGEST, SMALLEST), answer(0, ZERO, 0, 3));
+        let by_smallest = |budget| run(budget, LARGEST, SMALLEST);
+        assert_eq!(by_smallest(u32::MAX), of_denormal(answer(0, ZERO, 0, 3)));
         // A zero partial value is still partial.
-        assert_eq!(run(2, LARGEST, SMALLEST), answer(7, ZERO, 0, 2));
+        assert_eq!(by_smallest(2), of_denormal(answer(7, ZERO, 0, 2)));
     }
 }
 
@@ -295,12 +308,14 @@ fn a_partial_value_may_fall_by_more_than_63() {
 
 #[test]
 fn an_infinite_divisor_gives_the_dividend() {
-    for x in [SMALLEST, NEGATIVE | LARGEST, NEGATIVE | ZERO] {
+    for x in [THREE, NEGATIVE | LARGEST, NEGATIVE | ZERO] {
         assert_eq!(remainder(X87, Nearest, x, INFINITY), answer(0, x, 0, 0));
         assert_eq!(remquo(X87, Nearest, x, INFINITY), signed(0, x, 0));
         assert_eq!(step(Nearest, 63, x, INFINITY), answer(0, x, 0, 1));
         assert_eq!(run(Nearest, 63, 0, x, INFINITY), answer(7, x, 0, 0));
     }
+    let smallest = remainder(X87, Nearest, SMALLEST, INFINITY);
+    assert_eq!(smallest, of_denormal(answer(0, SMALLEST, 0, 0)));
 }
 
 #[test]
@@ -314,20 +329,26 @@ fn refusals_come_in_their_order() {
         (63, ZERO, NEGATIVE | ZERO, 5),
     ];
     for (size, x, y, number) in cases {
-        assert_eq!(step(Truncated, size, x, y), refused(X87, number));
-        assert_eq!(run(Nearest, size, 0, x, y), refused(X87, number));
+        let value = match number {
+            3 => QUIET,
+            _ => house_nan(X87),
+        };
+        let told = answer(number, value, 0, 0);
+        assert_eq!(step(Truncated, size, x, y), told);
+        assert_eq!(run(Nearest, size, 0, x, y), told);
     }
 }
 
 #[test]
 fn every_format_has_its_refusals() {
     for format in FORMATS {
-        let nan = refused(format, 3).value;
+        let nan = house_nan(format);
         assert_eq!(remainder(format, Nearest, nan, 0), refused(format, 3));
         assert_eq!(remainder(format, Nearest, 0, 0), refused(format, 5));
         assert_eq!(remquo(format, Nearest, nan, 0), refused(format, 3));
         assert_eq!(remquo(format, Nearest, 0, 0), refused(format, 5));
         assert_eq!(scale(format, nan, 1), refused(format, 3));
+        assert_eq!(split(format, nan), refused(format, 3));
         assert_eq!(split(format, 0), refused(format, 8));
     }
     assert_eq!(split(X87, INFINITY), refused(X87, 4));
@@ -350,20 +371,21 @@ fn pseudo_denormals() -> Vec<(u128, u128)> {
 #[test]
 fn a_pseudo_denormal_is_returned_in_its_ordinary_pattern() {
     for (x, ordinary) in pseudo_denormals() {
+        let returned = |number, steps| of_denormal(answer(number, ordinary, 0, steps));
         for kind in BOTH {
             for y in [INFINITY, NEGATIVE | INFINITY] {
-                assert_eq!(remainder(X87, kind, x, y), answer(0, ordinary, 0, 0));
-                assert_eq!(step(kind, 63, x, y), answer(0, ordinary, 0, 1));
-                assert_eq!(run(kind, 32, 9, x, y), answer(0, ordinary, 0, 1));
+                assert_eq!(remainder(X87, kind, x, y), returned(0, 0));
+                assert_eq!(step(kind, 63, x, y), returned(0, 1));
+                assert_eq!(run(kind, 32, 9, x, y), returned(0, 1));
             }
             for y in [ONE, SMALLEST, x, ordinary, INFINITY] {
-                assert_eq!(run(kind, 32, 0, x, y), answer(7, ordinary, 0, 0));
+                assert_eq!(run(kind, 32, 0, x, y), returned(7, 0));
             }
         }
-        assert_eq!(scale(X87, x, 0), scaled(ordinary, 0));
+        assert_eq!(scale(X87, x, 0), of_denormal(scaled(ordinary, 0)));
         let parts = split(X87, x);
         assert_eq!((parts.number, parts.value), (0, x | 0x3FFF << 64));
-        assert_eq!(parts.exponent, -16382);
+        assert_eq!((parts.exponent, parts.denormal), (-16382, true));
         assert_eq!(scale(X87, parts.value, parts.exponent), scaled(ordinary, 0));
     }
 }
@@ -372,18 +394,16 @@ fn a_pseudo_denormal_is_returned_in_its_ordinary_pattern() {
 fn a_pseudo_denormal_counts_its_leading_bit() {
     // 2^63 + 5 by 4.
     let x = 1 << 63 | 5;
-    assert_eq!(remainder(X87, Truncated, x, 4), answer(0, 1, 1, 0));
+    let left = |value, quotient| of_denormal(answer(0, value, quotient, 0));
+    assert_eq!(remainder(X87, Truncated, x, 4), left(1, 1));
     // 3 * 2^62 and 2^63 + 5, by each other.
-    let y = 3 << 62;
-    let left = (1 << 62) - 5;
-    assert_eq!(remainder(X87, Nearest, y, x), answer(0, left, 1, 0));
-    assert_eq!(
-        remainder(X87, Nearest, x, y),
-        answer(0, NEGATIVE | left, 1, 0)
-    );
+    let (y, rest) = (3 << 62, (1 << 62) - 5);
+    assert_eq!(remainder(X87, Nearest, y, x), left(rest, 1));
+    assert_eq!(remainder(X87, Nearest, x, y), left(NEGATIVE | rest, 1));
     // A half goes down to the even one, and up to it.
-    assert_eq!(scale(X87, x, -1), scaled(1 << 62 | 2, 2));
-    assert_eq!(scale(X87, 1 << 63 | 7, -1), scaled(1 << 62 | 4, 1));
+    let halved = |x| scale(X87, x, -1);
+    assert_eq!(halved(x), of_denormal(scaled(1 << 62 | 2, 2)));
+    assert_eq!(halved(1 << 63 | 7), of_denormal(scaled(1 << 62 | 4, 1)));
 }
 
 #[test]
@@ -392,16 +412,17 @@ fn steps_by_a_pseudo_denormal() {
     let (x, y) = (65 << 64 | 1 << 63, 3 << 62);
     let (two, minus_one) = (1 << 64 | 1 << 63, NEGATIVE | 1 << 62);
     for kind in BOTH {
-        assert_eq!(step(kind, 63, x, y), answer(1, two, THIRD, 1));
+        let told = answer(1, two, THIRD, 1);
+        assert_eq!(step(kind, 63, x, y), of_denormal(told));
     }
-    assert_eq!(run(Truncated, 63, 9, x, y), answer(0, two, THIRD, 2));
-    assert_eq!(
-        run(Nearest, 63, 9, x, y),
-        answer(0, minus_one, THIRD + 1, 2)
-    );
+    for (kind, value, quotient) in [(Truncated, two, THIRD), (Nearest, minus_one, THIRD + 1)] {
+        let told = answer(0, value, quotient, 2);
+        assert_eq!(run(kind, 63, 9, x, y), of_denormal(told));
+    }
 }
 
-/// Whatever stands on the other side, the two patterns of a value have the same answers.
+/// Whatever stands on the other side, the two patterns of a value have the same answers, but for
+/// what is told of denormals: with the ordinary one it is the other side's alone.
 #[test]
 fn a_pseudo_denormal_is_as_good_as_its_ordinary_pattern() {
     let largest_denormal = (1 << 63) - 1;
@@ -420,15 +441,20 @@ fn a_pseudo_denormal_is_as_good_as_its_ordinary_pattern() {
     for (pseudo, ordinary) in pseudo_denormals() {
         for kind in BOTH {
             let alike = |x, y, plain_x, plain_y| {
+                let is_denormal = denormal(X87, plain_x) || denormal(X87, plain_y);
+                let hold = |told: Answer, plain: Answer| {
+                    assert_eq!((told.denormal, plain.denormal), (true, is_denormal));
+                    assert_eq!(told, of_denormal(plain));
+                };
                 let told = remainder(X87, kind, x, y);
-                assert_eq!(told, remainder(X87, kind, plain_x, plain_y));
+                hold(told, remainder(X87, kind, plain_x, plain_y));
                 let told = remquo(X87, kind, x, y);
-                assert_eq!(told, remquo(X87, kind, plain_x, plain_y));
+                hold(told, remquo(X87, kind, plain_x, plain_y));
                 let told = step(kind, 33, x, y);
-                assert_eq!(told, step(kind, 33, plain_x, plain_y));
+                hold(told, step(kind, 33, plain_x, plain_y));
                 for budget in [0, 1, u32::MAX] {
                     let told = run(kind, 63, budget, x, y);
-                    assert_eq!(told, run(kind, 63, budget, plain_x, plain_y));
+                    hold(told, run(kind, 63, budget, plain_x, plain_y));
                 }
             };
             for other in others {
@@ -440,9 +466,161 @@ fn a_pseudo_denormal_is_as_good_as_its_ordinary_pattern() {
             }
         }
         for power in [i32::MIN, -64, -63, -1, 0, 1, 32_765, 32_766, i32::MAX] {
-            assert_eq!(scale(X87, pseudo, power), scale(X87, ordinary, power));
+            let told = of_denormal(scale(X87, ordinary, power));
+            assert_eq!(scale(X87, pseudo, power), told);
         }
-        assert_eq!(split(X87, pseudo), split(X87, ordinary));
+        assert_eq!(split(X87, pseudo), of_denormal(split(X87, ordinary)));
+    }
+}
+
+/// Of each format: the smallest and the largest denormal, the smallest normal number, and patterns
+/// that are none of them, with both signs. A pseudo-denormal is one, and its ordinary pattern not.
+#[test]
+fn denormals_have_the_field_0() {
+    for (format, field, sign) in [
+        (Binary16, 10, 15),
+        (Binary32, 23, 31),
+        (Binary64, 52, 63),
+        (X87, 64, 79),
+    ] {
+        let infinity = nan(format, 0, 0) & !((1 << (field - 1)) - 1);
+        for x in [0, 1 << sign] {
+            assert!(!denormal(format, x), "zero");
+            for digits in [
+                1,
+                2,
+                (1 << (field - 1)) - 1,
+                1 << (field - 1),
+                (1 << field) - 1,
+            ] {
+                assert!(denormal(format, x | digits), "{format:?} {digits:X}");
+                // field 1: in x87 these are unsupported, and normal with a leading digit
+                assert!(!denormal(format, x | 1 << field | digits));
+                assert!(!denormal(format, x | infinity | digits));
+            }
+            assert!(!denormal(format, x | 1 << field));
+        }
+    }
+    for (pseudo, ordinary) in pseudo_denormals() {
+        assert!(denormal(X87, pseudo) && !denormal(X87, ordinary));
+    }
+}
+
+/// Under every number but 6, by every operation, of either operand.
+#[test]
+fn denormals_are_told() {
+    let (denormal, largest) = (SMALLEST, LARGEST);
+    for (size, x, y, number) in [
+        (63, denormal, THREE, 0),
+        (63, THREE, denormal, 1),
+        (63, denormal, denormal, 0),
+        (63, denormal, UNSUPPORTED, 2),
+        (63, UNSUPPORTED, denormal, 2),
+        (63, NAN, denormal, 3),
+        (63, denormal, NAN, 3),
+        (63, INFINITY, denormal, 4),
+        (63, denormal, NEGATIVE | ZERO, 5),
+        (63, largest, denormal, 1),
+        (31, denormal, THREE, 6),
+        (64, denormal, denormal, 6),
+    ] {
+        for kind in BOTH {
+            let told = step(kind, size, x, y);
+            assert_eq!((told.number, told.denormal), (number, number != 6));
+            let told = run(kind, size, 1, x, y);
+            let number = if number == 1 { 7 } else { number };
+            assert_eq!((told.number, told.denormal), (number, number != 6));
+            if number != 6 {
+                assert!(remainder(X87, kind, x, y).denormal);
+                assert!(remquo(X87, kind, x, y).denormal);
+            }
+        }
+    }
+    for format in FORMATS {
+        assert!(scale(format, 1, 40_000).denormal && split(format, 1).denormal);
+        assert!(!scale(format, 0, 1).denormal && !split(format, 0).denormal);
+        // a denormal result is no operand
+        let parts = split(format, 1);
+        let back = scale(format, parts.value, parts.exponent);
+        assert_eq!((back.value, back.denormal), (1, false));
+    }
+}
+
+/// Of runs that are joined the first one tells: the second gets the ordinary pattern.
+#[test]
+fn joined_runs_tell_what_the_first_one_tells() {
+    for (x, ordinary) in pseudo_denormals() {
+        for kind in BOTH {
+            let whole = run(kind, 63, 9, x, THREE);
+            let first = run(kind, 63, 0, x, THREE);
+            let rest = run(kind, 63, 9, first.value, THREE);
+            assert_eq!((first.value, first.denormal), (ordinary, true));
+            assert_eq!((rest.number, rest.denormal), (0, false));
+            let joined = Answer {
+                denormal: first.denormal,
+                ..rest
+            };
+            assert_eq!(joined, whole);
+        }
+    }
+}
+
+/// The four NaNs of a format that are made of its infinity, by the pattern of its last digits.
+#[test]
+fn a_nan_is_returned_quiet() {
+    for (format, quiet, sign) in [
+        (Binary16, 1 << 9, 1 << 15),
+        (Binary32, 1 << 22, 1 << 31),
+        (Binary64, 1 << 51, 1 << 63),
+        (X87, 1 << 62, NEGATIVE),
+    ] {
+        let infinity = house_nan(format) & !quiet;
+        let least = infinity | 1;
+        let most = infinity | (quiet - 1);
+        // the other one's significand is smaller, larger, or equal
+        for (x, y, chosen) in [
+            (least, most, most),
+            (most, least, most),
+            (sign | most, least, sign | most),
+            (least, sign | most, sign | most),
+            (least, sign | least, least),
+            (sign | least, least, sign | least),
+            // as given: a quiet one has the larger significand
+            (quiet | least, most, quiet | least),
+            (sign | most, quiet | infinity, quiet | infinity),
+            (quiet | most, quiet | least, quiet | most),
+        ] {
+            let told = answer(3, chosen | quiet, 0, 0);
+            for kind in BOTH {
+                assert_eq!(remainder(format, kind, x, y), told);
+                assert_eq!(remquo(format, kind, x, y), told);
+            }
+            assert_eq!(nan(format, x, y), told.value);
+        }
+        for x in [
+            least,
+            most,
+            sign | least,
+            quiet | most,
+            sign | quiet | infinity,
+        ] {
+            let told = answer(3, x | quiet, 0, 0);
+            for other in [0, sign, infinity, sign | infinity] {
+                assert_eq!(remainder(format, Nearest, x, other), told);
+                assert_eq!(remainder(format, Nearest, other, x), told);
+                assert_eq!(nan(format, x, other), told.value);
+                assert_eq!(nan(format, other, x), told.value);
+            }
+            assert_eq!(scale(format, x, 1), told);
+            assert_eq!(split(format, x), told);
+            assert_eq!(remainder(format, Nearest, x, 1), of_denormal(told));
+            assert_eq!(remainder(format, Nearest, 1, x), of_denormal(told));
+        }
+        assert_eq!(nan(format, 1, infinity), house_nan(format));
+    }
+    for (x, y) in [(NAN, UNSUPPORTED), (UNSUPPORTED, NAN)] {
+        assert_eq!(remainder(X87, Nearest, x, y), refused(X87, 2));
+        assert_eq!(nan(X87, x, y), QUIET);
     }
 }
 
@@ -451,6 +629,7 @@ fn every_binary16_splits_and_scales_back() {
     for x in (0..1 << 16).filter(|x| x & 0x7FFF != 0 && x & 0x7FFF < 0x7C00) {
         let parts = split(Binary16, x);
         assert_eq!((parts.number, parts.value & 0x7C00), (0, 0x3C00));
+        assert_eq!(parts.denormal, x & 0x7C00 == 0);
         assert_eq!(scale(Binary16, parts.value, parts.exponent), scaled(x, 0));
     }
 }
@@ -458,7 +637,7 @@ fn every_binary16_splits_and_scales_back() {
 #[test]
 fn powers_of_any_size() {
     for format in FORMATS {
-        assert_eq!(scale(format, 1, i32::MIN), scaled(0, 2));
+        assert_eq!(scale(format, 1, i32::MIN), of_denormal(scaled(0, 2)));
         assert_eq!(scale(format, 1, i32::MAX).says, 1);
         assert_eq!(scale(format, 0, i32::MAX), scaled(0, 0));
     }
@@ -467,14 +646,14 @@ fn powers_of_any_size() {
 
 #[test]
 fn lists() {
-    let (nan, infinity, house_nan) = (0x7FF8 << 48 | 1, 0x7FF0 << 48, 0x7FF8 << 48);
+    let (nan, infinity, house_nan) = (0xFFF0 << 48 | 1, 0x7FF0 << 48, 0x7FF8 << 48);
     let (minus_zero, x, two) = (1 << 63, 0x4016 << 48, 0x4000 << 48);
     assert_eq!(fold(Truncated, &[], nan), Err(3));
     assert_eq!(fold(Truncated, &[nan], minus_zero), Err(5));
     let folded = fold(Truncated, &[x, nan, minus_zero, infinity], two).unwrap();
     assert_eq!(
         folded.results,
-        [0x3FF8 << 48, house_nan, minus_zero, house_nan]
+        [0x3FF8 << 48, 0xFFF8 << 48 | 1, minus_zero, house_nan]
     );
     assert_eq!(folded.quotients, [2, 255, 0, 255]);
     assert_eq!(folded.marked, 2);

@@ -1,6 +1,8 @@
-//! What calls that are not refused return.
+//! What calls return: answers, and what a refused call tells.
 
-use crate::{Answer, Rounding, X87};
+use core::fmt;
+
+use crate::{Answer, Refusal, Rounding, X87};
 
 /// Quotients are told modulo this: those of the steps of one chain are added modulo it.
 ///
@@ -16,6 +18,8 @@ pub struct Remainder<T> {
     pub value: T,
     /// The quotient's magnitude modulo 2^31, [`QUOTIENT_MODULUS`].
     pub quotient: u32,
+    /// Whether an operand as given was [denormal](crate#denormals-and-nans).
+    pub denormal: bool,
 }
 
 impl<T> Remainder<T> {
@@ -23,6 +27,7 @@ impl<T> Remainder<T> {
         Remainder {
             value: of_pattern(self.value),
             quotient: self.quotient,
+            denormal: self.denormal,
         }
     }
 }
@@ -35,6 +40,8 @@ pub struct Remquo<T> {
     /// The quotient's magnitude modulo 2^31, below zero where just one operand is negative: from
     /// -(2^31 - 1) to 2^31 - 1. 0 has no sign.
     pub quotient: i32,
+    /// Whether an operand as given was [denormal](crate#denormals-and-nans).
+    pub denormal: bool,
 }
 
 impl<T> Remquo<T> {
@@ -42,6 +49,7 @@ impl<T> Remquo<T> {
         Remquo {
             value: of_pattern(self.value),
             quotient: self.quotient,
+            denormal: self.denormal,
         }
     }
 }
@@ -53,6 +61,8 @@ pub struct Scaled<T> {
     pub value: T,
     /// What the rounding did to its magnitude.
     pub rounding: Rounding,
+    /// Whether the number as given was [denormal](crate#denormals-and-nans).
+    pub denormal: bool,
 }
 
 impl<T> Scaled<T> {
@@ -60,6 +70,7 @@ impl<T> Scaled<T> {
         Scaled {
             value: of_pattern(self.value),
             rounding: self.rounding,
+            denormal: self.denormal,
         }
     }
 }
@@ -71,6 +82,8 @@ pub struct Split<T> {
     pub significand: T,
     /// The exponent of the leading one, also for a denormal number.
     pub exponent: i32,
+    /// Whether the number as given was [denormal](crate#denormals-and-nans).
+    pub denormal: bool,
 }
 
 impl<T> Split<T> {
@@ -78,11 +91,22 @@ impl<T> Split<T> {
         Split {
             significand: of_pattern(self.significand),
             exponent: self.exponent,
+            denormal: self.denormal,
         }
     }
 }
 
-/// What a step or a run gives: the fields of the 20 bytes that it writes.
+/// What a step or a run tells: its block, and beside it what the block's bytes do not tell.
+#[derive(Clone, Copy, Debug, PartialEq, Eq, Hash)]
+pub struct Stepped {
+    /// The fields of the 20 bytes.
+    pub block: Block,
+    /// Whether an operand as given was [denormal](crate#denormals-and-nans). Of runs that are
+    /// joined the first one's holds for all: see [`x87::run`](crate::x87::run).
+    pub denormal: bool,
+}
+
+/// The fields of the 20 bytes that a step or a run writes.
 ///
 /// | Bytes | |
 /// |---|---|
@@ -92,6 +116,8 @@ impl<T> Split<T> {
 /// | 11 | the octant: the quotient modulo 8 |
 /// | 12 to 15 | steps taken, little-endian |
 /// | 16 to 19 | the quotient, little-endian |
+///
+/// They do not tell whether an operand was denormal: a [`Stepped`] has that beside them.
 #[derive(Clone, Copy, Debug, PartialEq, Eq, Hash)]
 pub struct Block {
     /// The remainder if the answer is [`Finished`](Answer::Finished), else the value reached.
@@ -140,3 +166,55 @@ impl Block {
         }
     }
 }
+
+/// A refused call on numbers: why it was refused, and what it tells of its operands.
+///
+/// It becomes its [`Refusal`] by [`From`], and so by `?` in a function that returns one.
+///
+/// ```
+/// use zukemoriha::{binary64, Kind, Refusal, Refused};
+///
+/// // A signalling NaN by the smallest denormal.
+/// let refused = binary64::remainder(0xFFF0_0000_0000_0007, 1, Kind::Nearest).unwrap_err();
+/// let quiet = 0xFFF8_0000_0000_0007;
+/// assert_eq!(refused, Refused { refusal: Refusal::Nan, value: quiet, denormal: true });
+/// assert_eq!(refused.to_string(), "an operand is NaN");
+/// ```
+///
+/// The value of a `Refused<f64>` is a NaN, which is not equal to itself: compare its `refusal`.
+#[derive(Clone, Copy, Debug, PartialEq, Eq, Hash)]
+pub struct Refused<T> {
+    /// Why the call was refused.
+    pub refusal: Refusal,
+    /// Under [`Refusal::Nan`] [the operand that is NaN](crate#denormals-and-nans), made quiet;
+    /// under any other refusal the format's `HOUSE_NAN`.
+    pub value: T,
+    /// Whether an operand as given was [denormal](crate#denormals-and-nans). Under
+    /// [`Refusal::BadSize`] it is `false`.
+    pub denormal: bool,
+}
+
+impl<T> Refused<T> {
+    pub(crate) fn map<U>(self, of_pattern: impl Fn(T) -> U) -> Refused<U> {
+        Refused {
+            refusal: self.refusal,
+            value: of_pattern(self.value),
+            denormal: self.denormal,
+        }
+    }
+}
+
+impl<T> From<Refused<T>> for Refusal {
+    fn from(refused: Refused<T>) -> Refusal {
+        refused.refusal
+    }
+}
+
+impl<T> fmt::Display for Refused<T> {
+    fn fmt(&self, f: &mut fmt::Formatter<'_>) -> fmt::Result {
+        self.refusal.fmt(f)
+    }
+}
+
+#[cfg(feature = "std")]
+impl<T: fmt::Debug> std::error::Error for Refused<T> {}

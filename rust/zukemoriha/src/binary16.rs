@@ -1,7 +1,7 @@
 //! IEEE 754 binary16 (half precision): an operand is its pattern, a `u16`.
 
 crate::interchange::interchange_functions! {
-    u16;
+    u16, 0x7E00;
 
     /// ```
     /// use zukemoriha::{binary16, Kind};
@@ -46,4 +46,22 @@ crate::interchange::interchange_functions! {
     /// # Ok::<(), zukemoriha::Refusal>(())
     /// ```
     split: zk_split16;
+
+    /// ```
+    /// use zukemoriha::binary16;
+    ///
+    /// // The largest denormal, the smallest normal number, and a zero.
+    /// assert_eq!([0x83FF, 0x0400, 0x8000].map(binary16::denormal), [true, false, false]);
+    /// ```
+    denormal: zk_denormal16;
+
+    /// ```
+    /// use zukemoriha::binary16;
+    ///
+    /// // A quiet NaN has the larger significand beside any signalling one.
+    /// assert_eq!(binary16::nan(0x7DFF, 0xFE01), 0xFE01);
+    /// assert_eq!(binary16::nan(0x3C00, 0xFC01), 0xFE01);
+    /// assert_eq!(binary16::nan(0x3C00, 0x7C00), binary16::HOUSE_NAN);
+    /// ```
+    nan: zk_nan16;
 }

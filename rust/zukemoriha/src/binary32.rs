@@ -4,7 +4,7 @@
 //! [`scale_f32`](crate::scale_f32) and [`split_f32`](crate::split_f32) are the same on `f32`.
 
 crate::interchange::interchange_functions! {
-    u32;
+    u32, 0x7FC0_0000;
 
     /// ```
     /// use zukemoriha::{binary32, Kind};
@@ -49,4 +49,23 @@ crate::interchange::interchange_functions! {
     /// # Ok::<(), zukemoriha::Refusal>(())
     /// ```
     split: zk_split32;
+
+    /// ```
+    /// use zukemoriha::binary32;
+    ///
+    /// // The largest denormal, the smallest normal number, and a zero.
+    /// let patterns = [0x807F_FFFF, 0x0080_0000, 0x8000_0000];
+    /// assert_eq!(patterns.map(binary32::denormal), [true, false, false]);
+    /// ```
+    denormal: zk_denormal32;
+
+    /// ```
+    /// use zukemoriha::binary32;
+    ///
+    /// // A quiet NaN has the larger significand beside any signalling one.
+    /// assert_eq!(binary32::nan(0x7FBF_FFFF, 0xFFC0_0001), 0xFFC0_0001);
+    /// assert_eq!(binary32::nan(0x3F80_0000, 0xFF80_0001), 0xFFC0_0001);
+    /// assert_eq!(binary32::nan(0x3F80_0000, 0x7F80_0000), binary32::HOUSE_NAN);
+    /// ```
+    nan: zk_nan32;
 }

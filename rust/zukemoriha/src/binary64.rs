@@ -8,7 +8,7 @@ use crate::numbers::finished;
 use crate::{raw, Kind, Refusal};
 
 crate::interchange::interchange_functions! {
-    u64;
+    u64, 0x7FF8_0000_0000_0000;
 
     /// ```
     /// use zukemoriha::{binary64, Kind};
@@ -55,19 +55,37 @@ crate::interchange::interchange_functions! {
     /// # Ok::<(), zukemoriha::Refusal>(())
     /// ```
     split: zk_split64;
+
+    /// ```
+    /// use zukemoriha::binary64;
+    ///
+    /// // The largest denormal, the smallest normal number, and a zero.
+    /// let patterns = [0x800F_FFFF_FFFF_FFFF, 0x0010_0000_0000_0000, 0x8000_0000_0000_0000];
+    /// assert_eq!(patterns.map(binary64::denormal), [true, false, false]);
+    /// ```
+    denormal: zk_denormal64;
+
+    /// ```
+    /// use zukemoriha::binary64;
+    ///
+    /// // A quiet NaN has the larger significand beside any signalling one.
+    /// let (quiet, signalling) = (0xFFF8_0000_0000_0001, 0x7FF7_FFFF_FFFF_FFFF);
+    /// assert_eq!(binary64::nan(signalling, quiet), quiet);
+    /// assert_eq!(binary64::nan(0, 0xFFF0_0000_0000_0001), quiet);
+    /// assert_eq!(binary64::nan(0, 0x7FF0_0000_0000_0000), binary64::HOUSE_NAN);
+    /// ```
+    nan: zk_nan64;
 }
 
 /// The quotient byte of a place in a folded list that has no remainder.
 pub const MARK: u8 = 255;
 
-/// The result of a place in a folded list that has no remainder: one fixed NaN.
-pub const HOUSE_NAN: u64 = 0x7FF8_0000_0000_0000;
-
 /// Folds a list: `results` and `quotients` get, place by place, the remainder of the dividend by
 /// `divisor` and the quotient's magnitude modulo 8.
 ///
-/// A place whose dividend is NaN or infinite gets [`HOUSE_NAN`] and [`MARK`] instead. Returned is
-/// how many places are marked so.
+/// A place whose dividend is NaN gets that NaN, made quiet as [`nan`] has it, and [`MARK`]; one
+/// whose dividend is infinite gets [`HOUSE_NAN`] and [`MARK`]. Returned is how many places are
+/// marked so. Of denormal operands a list tells nothing.
 ///
 /// # Errors
 ///
@@ -82,14 +100,16 @@ pub const HOUSE_NAN: u64 = 0x7FF8_0000_0000_0000;
 /// ```
 /// use zukemoriha::{binary64, Kind};
 ///
-/// let angles = [725.5_f64, -30.25, f64::INFINITY].map(f64::to_bits);
+/// let (infinity, nan) = (f64::INFINITY.to_bits(), 0xFFF0_0000_0000_0007);
+/// let angles = [725.5_f64.to_bits(), (-30.25_f64).to_bits(), infinity, nan];
 /// let turn = 360.0_f64.to_bits();
-/// let (mut folded, mut turns) = ([0; 3], [0; 3]);
+/// let (mut folded, mut turns) = ([0; 4], [0; 4]);
 ///
 /// let marked = binary64::fold(&angles, &mut folded, &mut turns, turn, Kind::Truncated)?;
-/// assert_eq!(folded, [5.5_f64.to_bits(), (-30.25_f64).to_bits(), binary64::HOUSE_NAN]);
-/// assert_eq!(turns, [2, 0, binary64::MARK]);
-/// assert_eq!(marked, 1);
+/// assert_eq!(folded[..2], [5.5_f64.to_bits(), (-30.25_f64).to_bits()]);
+/// assert_eq!(folded[2..], [binary64::HOUSE_NAN, 0xFFF8_0000_0000_0007]);
+/// assert_eq!(turns, [2, 0, binary64::MARK, binary64::MARK]);
+/// assert_eq!(marked, 2);
 /// # Ok::<(), zukemoriha::Refusal>(())
 /// ```
 pub fn fold(

@@ -3,7 +3,7 @@
 use core::mem::align_of;
 use core::slice;
 
-use crate::{binary32, binary64, Kind, Refusal, Remainder, Remquo, Scaled, Split};
+use crate::{binary32, binary64, Kind, Refusal, Refused, Remainder, Remquo, Scaled, Split};
 
 /// The remainder of `x` by `y`, exact, with the low 31 bits of the quotient's magnitude.
 ///
@@ -28,8 +28,10 @@ use crate::{binary32, binary64, Kind, Refusal, Remainder, Remquo, Scaled, Split}
 /// assert_eq!(from_the_nearest_turn.quotient, 2);
 /// # Ok::<(), zukemoriha::Refusal>(())
 /// ```
-pub fn remainder_f32(x: f32, y: f32, kind: Kind) -> Result<Remainder<f32>, Refusal> {
-    binary32::remainder(x.to_bits(), y.to_bits(), kind).map(|r| r.map(f32::from_bits))
+pub fn remainder_f32(x: f32, y: f32, kind: Kind) -> Result<Remainder<f32>, Refused<f32>> {
+    binary32::remainder(x.to_bits(), y.to_bits(), kind)
+        .map(|r| r.map(f32::from_bits))
+        .map_err(|refused| refused.map(f32::from_bits))
 }
 
 /// The remainder of `x` by `y`, exact, with the low 31 bits of the quotient's magnitude.
@@ -53,11 +55,15 @@ pub fn remainder_f32(x: f32, y: f32, kind: Kind) -> Result<Remainder<f32>, Refus
 /// let angle = remainder_f64(1e22, 360.0, Kind::Truncated)?;
 /// assert_eq!((angle.value, angle.quotient), (280.0, 1_177_492_593));
 ///
-/// assert_eq!(remainder_f64(f64::INFINITY, 360.0, Kind::Truncated), Err(Refusal::Infinite));
+/// let refused = remainder_f64(f64::INFINITY, 360.0, Kind::Truncated).unwrap_err();
+/// assert_eq!(refused.refusal, Refusal::Infinite);
+/// assert!(refused.value.is_nan() && !refused.denormal);
 /// # Ok::<(), Refusal>(())
 /// ```
-pub fn remainder_f64(x: f64, y: f64, kind: Kind) -> Result<Remainder<f64>, Refusal> {
-    binary64::remainder(x.to_bits(), y.to_bits(), kind).map(|r| r.map(f64::from_bits))
+pub fn remainder_f64(x: f64, y: f64, kind: Kind) -> Result<Remainder<f64>, Refused<f64>> {
+    binary64::remainder(x.to_bits(), y.to_bits(), kind)
+        .map(|r| r.map(f64::from_bits))
+        .map_err(|refused| refused.map(f64::from_bits))
 }
 
 /// The remainder of `x` by `y`, exact, with the low 31 bits of the quotient's magnitude and the
@@ -81,8 +87,10 @@ pub fn remainder_f64(x: f64, y: f64, kind: Kind) -> Result<Remainder<f64>, Refus
 /// assert_eq!(from_the_nearest_turn.quotient, -2);
 /// # Ok::<(), zukemoriha::Refusal>(())
 /// ```
-pub fn remquo_f32(x: f32, y: f32, kind: Kind) -> Result<Remquo<f32>, Refusal> {
-    binary32::remquo(x.to_bits(), y.to_bits(), kind).map(|r| r.map(f32::from_bits))
+pub fn remquo_f32(x: f32, y: f32, kind: Kind) -> Result<Remquo<f32>, Refused<f32>> {
+    binary32::remquo(x.to_bits(), y.to_bits(), kind)
+        .map(|r| r.map(f32::from_bits))
+        .map_err(|refused| refused.map(f32::from_bits))
 }
 
 /// The remainder of `x` by `y`, exact, with the low 31 bits of the quotient's magnitude and the
@@ -107,11 +115,14 @@ pub fn remquo_f32(x: f32, y: f32, kind: Kind) -> Result<Remquo<f32>, Refusal> {
 /// assert_eq!(remquo_f64(2_147_483_647.0, 1.0, Kind::Nearest)?.quotient, i32::MAX);
 /// assert_eq!(remquo_f64(2_147_483_648.0, 1.0, Kind::Nearest)?.quotient, 0);
 ///
-/// assert_eq!(remquo_f64(1.0, 0.0, Kind::Nearest), Err(Refusal::ZeroDivisor));
+/// let refused = remquo_f64(1.0, 0.0, Kind::Nearest).unwrap_err();
+/// assert_eq!(refused.refusal, Refusal::ZeroDivisor);
 /// # Ok::<(), Refusal>(())
 /// ```
-pub fn remquo_f64(x: f64, y: f64, kind: Kind) -> Result<Remquo<f64>, Refusal> {
-    binary64::remquo(x.to_bits(), y.to_bits(), kind).map(|r| r.map(f64::from_bits))
+pub fn remquo_f64(x: f64, y: f64, kind: Kind) -> Result<Remquo<f64>, Refused<f64>> {
+    binary64::remquo(x.to_bits(), y.to_bits(), kind)
+        .map(|r| r.map(f64::from_bits))
+        .map_err(|refused| refused.map(f64::from_bits))
 }
 
 /// `x` times two to the `power`, rounded once, ties to even: C's `ldexpf`.
@@ -132,8 +143,10 @@ pub fn remquo_f64(x: f64, y: f64, kind: Kind) -> Result<Remquo<f64>, Refusal> {
 /// assert_eq!((scaled.value, scaled.rounding), (12.0, Rounding::Exact));
 /// # Ok::<(), zukemoriha::Refusal>(())
 /// ```
-pub fn scale_f32(x: f32, power: i32) -> Result<Scaled<f32>, Refusal> {
-    binary32::scale(x.to_bits(), power).map(|s| s.map(f32::from_bits))
+pub fn scale_f32(x: f32, power: i32) -> Result<Scaled<f32>, Refused<f32>> {
+    binary32::scale(x.to_bits(), power)
+        .map(|s| s.map(f32::from_bits))
+        .map_err(|refused| refused.map(f32::from_bits))
 }
 
 /// `x` times two to the `power`, rounded once, ties to even: C's `ldexp`.
@@ -157,8 +170,10 @@ pub fn scale_f32(x: f32, power: i32) -> Result<Scaled<f32>, Refusal> {
 /// assert_eq!((too_small.value, too_small.rounding), (-0.0, Rounding::Down));
 /// # Ok::<(), zukemoriha::Refusal>(())
 /// ```
-pub fn scale_f64(x: f64, power: i32) -> Result<Scaled<f64>, Refusal> {
-    binary64::scale(x.to_bits(), power).map(|s| s.map(f64::from_bits))
+pub fn scale_f64(x: f64, power: i32) -> Result<Scaled<f64>, Refused<f64>> {
+    binary64::scale(x.to_bits(), power)
+        .map(|s| s.map(f64::from_bits))
+        .map_err(|refused| refused.map(f64::from_bits))
 }
 
 /// Splits `x` into a significand, its magnitude from 1 to below 2 and its sign that of `x`, and
@@ -179,8 +194,10 @@ pub fn scale_f64(x: f64, power: i32) -> Result<Scaled<f64>, Refusal> {
 /// assert_eq!((split.significand, split.exponent), (-1.5, 3));
 /// # Ok::<(), zukemoriha::Refusal>(())
 /// ```
-pub fn split_f32(x: f32) -> Result<Split<f32>, Refusal> {
-    binary32::split(x.to_bits()).map(|s| s.map(f32::from_bits))
+pub fn split_f32(x: f32) -> Result<Split<f32>, Refused<f32>> {
+    binary32::split(x.to_bits())
+        .map(|s| s.map(f32::from_bits))
+        .map_err(|refused| refused.map(f32::from_bits))
 }
 
 /// Splits `x` into a significand, its magnitude from 1 to below 2 and its sign that of `x`, and
@@ -202,19 +219,22 @@ pub fn split_f32(x: f32) -> Result<Split<f32>, Refusal> {
 /// let split = split_f64(-12.0)?;
 /// assert_eq!((split.significand, split.exponent), (-1.5, 3));
 ///
-/// assert_eq!(split_f64(0.0), Err(Refusal::ZeroSplit));
+/// assert_eq!(split_f64(0.0).unwrap_err().refusal, Refusal::ZeroSplit);
 /// # Ok::<(), Refusal>(())
 /// ```
-pub fn split_f64(x: f64) -> Result<Split<f64>, Refusal> {
-    binary64::split(x.to_bits()).map(|s| s.map(f64::from_bits))
+pub fn split_f64(x: f64) -> Result<Split<f64>, Refused<f64>> {
+    binary64::split(x.to_bits())
+        .map(|s| s.map(f64::from_bits))
+        .map_err(|refused| refused.map(f64::from_bits))
 }
 
 /// Folds a list: `results` and `quotients` get, place by place, the remainder of the dividend by
 /// `divisor` and the quotient's magnitude modulo 8.
 ///
-/// A place whose dividend is NaN or infinite gets a NaN, the one with the pattern
-/// [`HOUSE_NAN`](binary64::HOUSE_NAN), and the byte [`MARK`](binary64::MARK) instead. Returned is
-/// how many places are marked so.
+/// A place whose dividend is NaN gets that NaN, made quiet as [`nan`](binary64::nan) has it; one
+/// whose dividend is infinite gets the NaN with the pattern [`HOUSE_NAN`](binary64::HOUSE_NAN).
+/// Both get the byte [`MARK`](binary64::MARK). Returned is how many places are marked so. Of
+/// denormal operands a list tells nothing.
 ///
 /// # Errors
 ///

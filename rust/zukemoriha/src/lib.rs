@@ -17,7 +17,8 @@
 //! ```
 //!
 //! - **Every bit pattern is taken.** Nothing has to be looked at before a call: bad input is
-//!   refused by a [`Refusal`], and a refused call writes nothing.
+//!   refused by a [`Refusal`], and a refused call writes nothing. Which operand is the NaN, and
+//!   whether one is denormal, is told too.
 //! - **Exact.** A remainder is right to the last bit and the sign of zero, however far apart the
 //!   operands are. Only scaling and a roller's subtraction round: once, ties to even.
 //! - **Proved.** The archive that does the work is written in Rattle, a systems language like
@@ -58,7 +59,7 @@
 //! | 0 | [`Answer::Finished`] | the result is there |
 //! | 1 | [`Answer::Partial`] | a step was partial |
 //! | 2 | [`Refusal::Unsupported`] | an x87 operand is unsupported |
-//! | 3 | [`Refusal::Nan`] | an operand is NaN |
+//! | 3 | [`Refusal::Nan`] | an operand is NaN: the value is that NaN, quiet |
 //! | 4 | [`Refusal::Infinite`] | the dividend is infinite, or an infinity is split |
 //! | 5 | [`Refusal::ZeroDivisor`] | the divisor is zero |
 //! | 6 | [`Refusal::BadSize`] | a step size outside 32 to 63 |
@@ -76,6 +77,37 @@
 //! Where several refusals apply, the first of 9, 6, 2, 3, 4, 5, 8 is given; stem files have orders
 //! of their own, for [reading](Stem::open) and for [writing](Stem::write).
 //!
+//! # Denormals and NaNs
+//!
+//! A remainder, a step, a run, a scaling and a splitting tell two facts of their operands as they
+//! were given:
+//!
+//! - **Whether one was denormal**, `denormal` in every answer and in a [`Refused`]: its exponent
+//!   field is 0, and it is not a zero. A [pseudo-denormal](X87#the-ordinary-pattern) is one. It is
+//!   told with every number but 6, [`Refusal::BadSize`], where it is `false`. Runs that are joined
+//!   take [what the first one tells](x87::run).
+//! - **Which one was the NaN**, the value of a [`Refused`] by [`Refusal::Nan`]. If one operand is
+//!   NaN it is that one; of two, the one whose significand is larger as given, and the dividend
+//!   where they are equal. It is made quiet: the top bit of its fraction is set, and its sign and
+//!   all other bits are kept. The value under any other refusal is the format's house NaN, for
+//!   example [`binary64::HOUSE_NAN`].
+//!
+//! In a folded list the place of a NaN dividend has that NaN, quiet, and an infinite dividend's the
+//! house NaN; a NaN divisor refuses the whole list. Points of stem files have the house NaN for
+//! both. Neither lists nor stem files nor the bytes of a [`Block`] tell of denormals. Of any
+//! pattern [`binary64::denormal`] and [`binary64::nan`] tell both, and so in each format's module.
+//!
+//! ```
+//! use zukemoriha::{binary32, Kind, Refusal};
+//!
+//! // 1 by the smallest denormal, and a signalling NaN by 1.
+//! assert!(binary32::remainder(0x3F80_0000, 0x0000_0001, Kind::Truncated)?.denormal);
+//!
+//! let refused = binary32::remainder(0xFF80_00AB, 0x3F80_0000, Kind::Truncated).unwrap_err();
+//! assert_eq!((refused.refusal, refused.value), (Refusal::Nan, 0xFFC0_00AB));
+//! # Ok::<(), Refusal>(())
+//! ```
+//!
 //! No operand makes a function panic. One thing does: an archive of another version than this
 //! crate, if it returns a number that this version never returns.
 //!
@@ -92,7 +124,7 @@
 //! # Without the standard library
 //!
 //! The crate is `no_std`, has no dependency and allocates nothing. The feature `std`, off by
-//! default, implements `std::error::Error` for [`Refusal`].
+//! default, implements `std::error::Error` for [`Refusal`] and [`Refused`].
 
 #![no_std]
 #![deny(missing_docs)]
@@ -114,7 +146,7 @@ pub mod binary64;
 pub mod stem;
 pub mod x87;
 
-pub use answers::{Block, Remainder, Remquo, Scaled, Split, QUOTIENT_MODULUS};
+pub use answers::{Block, Refused, Remainder, Remquo, Scaled, Split, Stepped, QUOTIENT_MODULUS};
 pub use floats::{
     fold_f64, remainder_f32, remainder_f64, remquo_f32, remquo_f64, scale_f32, scale_f64,
     split_f32, split_f64,

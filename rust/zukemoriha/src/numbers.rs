@@ -56,7 +56,8 @@ impl Answer {
     }
 }
 
-/// Why a call was refused. A refused call has written nothing to what it was lent.
+/// Why a call was refused. A refused call has written nothing to what it was lent. On numbers it
+/// tells more: see [`Refused`](crate::Refused).
 ///
 /// Where several refusals apply, a call gives the first of 9, 6, 2, 3, 4, 5, 8 by [`number`]. Stem
 /// files have orders of their own: see [`Stem::open`](crate::Stem::open) and
@@ -65,7 +66,7 @@ impl Answer {
 /// ```
 /// use zukemoriha::{remainder_f64, Kind, Refusal};
 ///
-/// let refusal = remainder_f64(1.0, 0.0, Kind::Truncated).unwrap_err();
+/// let refusal = remainder_f64(1.0, 0.0, Kind::Truncated).unwrap_err().refusal;
 /// assert_eq!(refusal, Refusal::ZeroDivisor);
 /// assert_eq!(refusal.number(), 5);
 /// assert_eq!(refusal.to_string(), "the divisor is zero");
@@ -77,7 +78,7 @@ impl Answer {
 pub enum Refusal {
     /// An x87 operand has a nonzero exponent and no leading bit: see [`X87`](crate::X87).
     Unsupported = 2,
-    /// An operand is NaN.
+    /// An operand is NaN. Which one, is told by the value of a [`Refused`](crate::Refused).
     Nan = 3,
     /// The dividend is infinite, or an infinity was to be split.
     Infinite = 4,
@@ -204,6 +205,15 @@ pub(crate) fn finished(number: u8) -> Result<(), Refusal> {
     }
 }
 
+/// What a function says that answers yes, 1, or no, 0.
+pub(crate) fn yes(says: u8) -> bool {
+    match says {
+        0 => false,
+        1 => true,
+        _ => other_version(),
+    }
+}
+
 /// For what the archive of this version is proved never to return.
 #[cold]
 pub(crate) fn other_version() -> ! {
@@ -238,6 +248,13 @@ mod tests {
     #[should_panic(expected = "different versions")]
     fn a_partial_remainder_is_of_another_version() {
         let _ = finished(1);
+    }
+
+    #[test]
+    #[should_panic(expected = "different versions")]
+    fn neither_yes_nor_no_is_of_another_version() {
+        assert_eq!([0, 1].map(yes), [false, true]);
+        yes(2);
     }
 
     #[test]

@@ -28,7 +28,9 @@
 /// # The ordinary pattern
 ///
 /// A pseudo-denormal is a number like any other, but no result is written as one. Of the two
-/// patterns results have the ordinary one, with `e` = 1, also where an operand is returned:
+/// patterns results have the ordinary one, with `e` = 1, also where an operand is returned. As an
+/// operand a pseudo-denormal counts as [denormal](crate#denormals-and-nans), and its ordinary
+/// pattern does not:
 ///
 /// ```
 /// use zukemoriha::{x87, Kind, X87};
@@ -38,7 +40,8 @@
 /// let infinity = X87 { significand: 1 << 63, word: 0x7FFF };
 ///
 /// let left = x87::remainder(pseudo_denormal, infinity, Kind::Truncated)?;
-/// assert_eq!(left.value, ordinary);
+/// assert_eq!((left.value, left.denormal), (ordinary, true));
+/// assert!(!x87::denormal(left.value));
 /// assert_eq!(x87::scale(pseudo_denormal, 0)?.value, ordinary);
 /// # Ok::<(), zukemoriha::Refusal>(())
 /// ```

@@ -78,6 +78,16 @@ extern "C" {
         exponent: *mut i32,
     ) -> u8;
 
+    pub fn zk_denormal16(x: u16) -> u8;
+    pub fn zk_denormal32(x: u32) -> u8;
+    pub fn zk_denormal64(x: u64) -> u8;
+    pub fn zk_denormal80(x: u64, xw: u16) -> u8;
+
+    pub fn zk_nan16(x: u16, y: u16) -> u16;
+    pub fn zk_nan32(x: u32, y: u32) -> u32;
+    pub fn zk_nan64(x: u64, y: u64) -> u64;
+    pub fn zk_nan80(x: u64, xw: u16, y: u64, yw: u16, value: *mut u64, valuew: *mut u16);
+
     pub fn zk_fold64(
         x: *const u64,
         nx: usize,

@@ -5,7 +5,9 @@
 mod raw;
 
 use zukemoriha::binary64::{self, HOUSE_NAN, MARK};
-use zukemoriha::{fold_f64, x87, Answer, Block, Kind, Refusal, QUOTIENT_MODULUS, X87};
+use zukemoriha::{
+    fold_f64, x87, Answer, Block, Kind, Refusal, Refused, Stepped, QUOTIENT_MODULUS, X87,
+};
 
 const KINDS: [Kind; 2] = [Kind::Truncated, Kind::Nearest];
 /// A byte that no call here writes everywhere.
@@ -17,8 +19,9 @@ const THREE: X87 = number(3 << 62, 0x4000);
 const TWO: X87 = number(1 << 63, 0x4000);
 const ZERO: X87 = number(0, 0);
 const INFINITY: X87 = number(1 << 63, 0x7FFF);
-const NAN: X87 = number(3 << 62, 0x7FFF);
+const NAN: X87 = number(7 << 61, 0xFFFF);
 const UNSUPPORTED: X87 = number(1, 1);
+const DENORMAL: X87 = number(1, 0x8000);
 
 const fn number(significand: u64, word: u16) -> X87 {
     X87 { significand, word }
@@ -32,30 +35,53 @@ fn a_refused_step_or_run_leaves_the_block_as_it_was() {
         (UNSUPPORTED, NAN, 32, Refusal::Unsupported),
         (NAN, UNSUPPORTED, 32, Refusal::Unsupported),
         (INFINITY, NAN, 63, Refusal::Nan),
+        (NAN, DENORMAL, 63, Refusal::Nan),
         (INFINITY, ZERO, 63, Refusal::Infinite),
+        (INFINITY, DENORMAL, 63, Refusal::Infinite),
         (ZERO, ZERO, 63, Refusal::ZeroDivisor),
+        (DENORMAL, ZERO, 63, Refusal::ZeroDivisor),
+        (DENORMAL, DENORMAL, 31, Refusal::BadSize),
     ];
     for (x, y, size, refusal) in refused {
         for kind in KINDS {
             let mut block = [OLD; Block::LENGTH];
-            assert_eq!(x87::step_into(x, y, size, kind, &mut block), Err(refusal));
-            assert_eq!(x87::run_into(x, y, size, kind, 9, &mut block), Err(refusal));
+            let told = refused_by(refusal, x, y);
+            assert_eq!(x87::step_into(x, y, size, kind, &mut block), told);
+            assert_eq!(x87::run_into(x, y, size, kind, 9, &mut block), told);
             assert_eq!(block, [OLD; Block::LENGTH]);
-            assert_eq!(x87::step(x, y, size, kind), Err(refusal));
-            assert_eq!(x87::run(x, y, size, kind, 9), Err(refusal));
+            assert_eq!(x87::step(x, y, size, kind), told);
+            assert_eq!(x87::run(x, y, size, kind, 9), told);
         }
     }
+}
+
+/// What a refused step or run tells. Of NaNs only [`NAN`] is handed over, which is quiet.
+fn refused_by(refusal: Refusal, x: X87, y: X87) -> Result<Stepped, Refused<X87>> {
+    let value = match refusal {
+        Refusal::Nan => NAN,
+        _ => x87::HOUSE_NAN,
+    };
+    let denormal = refusal != Refusal::BadSize && [x, y].contains(&DENORMAL);
+    Err(Refused {
+        refusal,
+        value,
+        denormal,
+    })
 }
 
 #[test]
 fn a_block_of_another_length_is_refused_first() {
     for length in (0..40).filter(|&length| length != Block::LENGTH) {
-        for (x, y, size) in [(TWO_TO_65, THREE, 63), (UNSUPPORTED, NAN, 0)] {
+        for (x, y, size) in [
+            (TWO_TO_65, THREE, 63),
+            (UNSUPPORTED, NAN, 0),
+            (NAN, DENORMAL, 63),
+        ] {
             let mut block = vec![OLD; length];
             let step = x87::step_into(x, y, size, Kind::Nearest, &mut block);
             let run = x87::run_into(x, y, size, Kind::Nearest, 9, &mut block);
-            assert_eq!(step, Err(Refusal::BadLength));
-            assert_eq!(run, Err(Refusal::BadLength));
+            let told = refused_by(Refusal::BadLength, x, y);
+            assert_eq!([step, run], [told; 2]);
             assert_eq!(block, vec![OLD; length]);
         }
     }
@@ -65,21 +91,29 @@ fn a_block_of_another_length_is_refused_first() {
 fn the_lent_block_holds_what_the_other_form_returns() {
     for kind in KINDS {
         for size in x87::SIZES {
-            for (x, y) in [(TWO_TO_65, THREE), (TWO, THREE), (ZERO, INFINITY)] {
+            for (x, y) in [
+                (TWO_TO_65, THREE),
+                (TWO, THREE),
+                (ZERO, INFINITY),
+                (DENORMAL, THREE),
+                (TWO, DENORMAL),
+            ] {
+                let denormal = [x, y].contains(&DENORMAL);
                 let mut block = [OLD; Block::LENGTH];
-                let answer = x87::step_into(x, y, size, kind, &mut block).unwrap();
+                let lent = x87::step_into(x, y, size, kind, &mut block).unwrap();
                 let step = x87::step(x, y, size, kind).unwrap();
-                assert_eq!(Block::from_bytes(&block), Some(step));
-                assert_eq!((step.answer, step.steps), (answer, 1));
-                assert_eq!(u32::from(step.octant), step.quotient % 8);
+                assert_eq!((lent, step.denormal), (step, denormal));
+                assert_eq!(Block::from_bytes(&block), Some(step.block));
+                assert_eq!(step.block.steps, 1);
+                assert_eq!(u32::from(step.block.octant), step.block.quotient % 8);
 
                 for budget in 0..3 {
                     let mut block = [OLD; Block::LENGTH];
-                    let answer = x87::run_into(x, y, size, kind, budget, &mut block).unwrap();
+                    let lent = x87::run_into(x, y, size, kind, budget, &mut block).unwrap();
                     let run = x87::run(x, y, size, kind, budget).unwrap();
-                    assert_eq!(Block::from_bytes(&block), Some(run));
-                    assert_eq!(run.answer, answer);
-                    assert_eq!(u32::from(run.octant), run.quotient % 8);
+                    assert_eq!((lent, run.denormal), (run, denormal));
+                    assert_eq!(Block::from_bytes(&block), Some(run.block));
+                    assert_eq!(u32::from(run.block.octant), run.block.quotient % 8);
                 }
             }
         }
@@ -119,13 +153,18 @@ fn a_long_run_may_be_stopped_and_continued() {
     // The largest number by a small denormal: as many steps as D allows, 32824 / 32 cut.
     let (x, y) = (number(u64::MAX, 0x7FFE), number(25, 0));
     for kind in KINDS {
-        let whole = x87::run(x, y, 32, kind, u32::MAX).unwrap();
+        let run = |x, budget| {
+            let run = x87::run(x, y, 32, kind, budget).unwrap();
+            assert!(run.denormal);
+            run.block
+        };
+        let whole = run(x, u32::MAX);
         assert_eq!(whole.answer, Answer::Finished);
         assert_eq!(whole.steps, 1025);
 
-        let first = x87::run(x, y, 32, kind, 300).unwrap();
+        let first = run(x, 300);
         assert_eq!((first.answer, first.steps), (Answer::Spent, 300));
-        let rest = x87::run(first.value, y, 32, kind, whole.steps - 300).unwrap();
+        let rest = run(first.value, whole.steps - 300);
         assert_eq!((rest.answer, rest.value), (whole.answer, whole.value));
         assert_eq!(first.steps + rest.steps, whole.steps);
         let added = (first.quotient + rest.quotient) % QUOTIENT_MODULUS;
@@ -133,6 +172,43 @@ fn a_long_run_may_be_stopped_and_continued() {
 
         let once = x87::remainder(x, y, kind).unwrap();
         assert_eq!((once.value, once.quotient), (whole.value, whole.quotient));
+    }
+}
+
+/// The value that is handed on has its ordinary pattern, so that only the first run knows.
+#[test]
+fn joined_runs_take_what_the_first_one_tells() {
+    for (significand, sign) in [(1 << 63, 0), (3 << 62, 0x8000), (u64::MAX, 0)] {
+        let x = number(significand, sign);
+        for kind in KINDS {
+            let run = |x, budget| x87::run(x, THREE, 63, kind, budget).unwrap();
+            let (whole, first) = (run(x, 9), run(x, 0));
+            assert_eq!(first.block.answer, Answer::Spent);
+            assert_eq!(first.block.value, number(significand, sign | 1));
+            let rest = run(first.block.value, 9);
+            assert_eq!((first.denormal, rest.denormal), (true, false));
+            let denormal = first.denormal;
+            assert_eq!(Stepped { denormal, ..rest }, whole);
+        }
+    }
+}
+
+/// Both places are written, whatever the operands, and nothing beside them.
+#[test]
+fn a_nan_is_written_to_its_places() {
+    for (x, y, nan) in [
+        (NAN, THREE, NAN),
+        (ZERO, number(5 << 61, 0x7FFF), number(7 << 61, 0x7FFF)),
+        (UNSUPPORTED, NAN, NAN),
+        (UNSUPPORTED, ZERO, x87::HOUSE_NAN),
+        (DENORMAL, THREE, x87::HOUSE_NAN),
+    ] {
+        let (mut values, mut words) = ([OLD_PATTERN; 3], [0xA5A5; 3]);
+        let (value, word): (*mut u64, *mut u16) = (&mut values[1], &mut words[1]);
+        // SAFETY: each pointer is to a place of its own, of the type that is written.
+        unsafe { raw::zk_nan80(x.significand, x.word, y.significand, y.word, value, word) };
+        assert_eq!(values, [OLD_PATTERN, nan.significand, OLD_PATTERN]);
+        assert_eq!(words, [0xA5A5, nan.word, 0xA5A5]);
     }
 }
 
@@ -250,7 +326,8 @@ fn a_fold_is_a_remainder_at_each_place() {
         f64::NEG_INFINITY,
         0.5,
     ];
-    let x = x.map(f64::to_bits);
+    let mut x = x.map(f64::to_bits);
+    x[4] = 0xFFF0_0000_0000_0123;
     for divisor in [3.0, -360.0, 5e-324, f64::INFINITY].map(f64::to_bits) {
         for kind in KINDS {
             let (mut results, mut quotients) = ([OLD_PATTERN; 10], [OLD; 10]);
@@ -259,10 +336,11 @@ fn a_fold_is_a_remainder_at_each_place() {
             for (i, &dividend) in x.iter().enumerate() {
                 let alone = match binary64::remainder(dividend, divisor, kind) {
                     Ok(left) => (left.value, (left.quotient % 8) as u8),
-                    Err(_) => (HOUSE_NAN, MARK),
+                    Err(refused) => (refused.value, MARK),
                 };
                 assert_eq!((results[i], quotients[i]), alone);
             }
+            assert_eq!([results[4], results[8]], [0xFFF8_0000_0000_0123, HOUSE_NAN]);
 
             let mut values = [0.0; 10];
             let mut bytes = [OLD; 10];

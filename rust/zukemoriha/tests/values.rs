@@ -1,5 +1,5 @@
-//! What is handed over and what comes back: numbers of enums, bytes of operands and blocks, and
-//! the functions on f32 and f64 beside those on patterns.
+//! What is handed over and what comes back: numbers of enums, bytes of operands and blocks, what is
+//! told of denormals and NaNs, and the functions on f32 and f64 beside those on patterns.
 
 use std::arch::asm;
 
@@ -94,6 +94,21 @@ fn enums_have_the_numbers_of_the_archive() {
 fn a_refusal_is_an_error() {
     let error: Box<dyn std::error::Error> = Refusal::Nan.into();
     assert_eq!(error.to_string(), "an operand is NaN");
+    let refused = split_f64(f64::NAN).unwrap_err();
+    let error: Box<dyn std::error::Error> = refused.into();
+    assert_eq!(error.to_string(), "an operand is NaN");
+}
+
+/// By the question mark.
+#[test]
+fn a_refused_call_becomes_its_refusal() {
+    fn halved(x: f64) -> Result<f64, Refusal> {
+        let split = split_f64(x)?;
+        Ok(scale_f64(split.significand, split.exponent - 1)?.value)
+    }
+    assert_eq!(halved(-12.0), Ok(-6.0));
+    assert_eq!(halved(0.0), Err(Refusal::ZeroSplit));
+    assert_eq!(halved(f64::NAN), Err(Refusal::Nan));
 }
 
 #[test]
@@ -142,11 +157,17 @@ fn a_pseudo_denormal_is_returned_in_its_ordinary_pattern() {
             for kind in KINDS {
                 let left = x87::remainder(x, infinity, kind).unwrap();
                 assert_eq!((left.value, left.quotient), (ordinary, 0));
-                assert_eq!(x87::step(x, infinity, 63, kind).unwrap().value, ordinary);
+                let step = x87::step(x, infinity, 63, kind).unwrap();
+                assert_eq!(step.block.value, ordinary);
                 let run = x87::run(x, x, 63, kind, 0).unwrap();
-                assert_eq!((run.answer, run.value), (Answer::Spent, ordinary));
+                assert_eq!(
+                    (run.block.answer, run.block.value),
+                    (Answer::Spent, ordinary)
+                );
+                assert!(left.denormal && step.denormal && run.denormal);
             }
-            assert_eq!(x87::scale(x, 0).unwrap().value, ordinary);
+            let scaled = x87::scale(x, 0).unwrap();
+            assert_eq!((scaled.value, scaled.denormal), (ordinary, true));
             let split = x87::split(x).unwrap();
             assert_eq!(
                 (split.significand.significand, split.exponent),
@@ -154,6 +175,7 @@ fn a_pseudo_denormal_is_returned_in_its_ordinary_pattern() {
             );
             let back = x87::scale(split.significand, split.exponent).unwrap();
             assert_eq!((back.value, back.rounding), (ordinary, Rounding::Exact));
+            assert!(split.denormal && !back.denormal);
         }
     }
 }
@@ -181,34 +203,48 @@ fn a_block_is_read_if_its_number_is_an_answer() {
     }
 }
 
+/// A call on floats tells what the call on their patterns tells.
+macro_rules! alike {
+    ($floats:expr, $patterns:expr, $value:ident, $more:ident) => {
+        assert_eq!(
+            $floats
+                .map(|told| (told.$value.to_bits(), told.$more, told.denormal))
+                .map_err(|why| (why.refusal, why.value.to_bits(), why.denormal)),
+            $patterns
+                .map(|told| (told.$value, told.$more, told.denormal))
+                .map_err(|why| (why.refusal, why.value, why.denormal))
+        )
+    };
+}
+
 #[test]
 fn f32_functions_are_those_on_patterns() {
     for x in PATTERNS_32 {
         let float = f32::from_bits(x);
         for y in PATTERNS_32 {
+            let by = f32::from_bits(y);
             for kind in KINDS {
-                assert_eq!(
-                    remainder_f32(float, f32::from_bits(y), kind)
-                        .map(|left| (left.value.to_bits(), left.quotient)),
-                    binary32::remainder(x, y, kind).map(|left| (left.value, left.quotient))
+                let (floats, patterns) = (remainder_f32, binary32::remainder);
+                alike!(
+                    floats(float, by, kind),
+                    patterns(x, y, kind),
+                    value,
+                    quotient
                 );
-                assert_eq!(
-                    remquo_f32(float, f32::from_bits(y), kind)
-                        .map(|left| (left.value.to_bits(), left.quotient)),
-                    binary32::remquo(x, y, kind).map(|left| (left.value, left.quotient))
+                let (floats, patterns) = (remquo_f32, binary32::remquo);
+                alike!(
+                    floats(float, by, kind),
+                    patterns(x, y, kind),
+                    value,
+                    quotient
                 );
             }
         }
         for power in POWERS {
-            assert_eq!(
-                scale_f32(float, power).map(|scaled| (scaled.value.to_bits(), scaled.rounding)),
-                binary32::scale(x, power).map(|scaled| (scaled.value, scaled.rounding))
-            );
+            let scaled = binary32::scale(x, power);
+            alike!(scale_f32(float, power), scaled, value, rounding);
         }
-        assert_eq!(
-            split_f32(float).map(|split| (split.significand.to_bits(), split.exponent)),
-            binary32::split(x).map(|split| (split.significand, split.exponent))
-        );
+        alike!(split_f32(float), binary32::split(x), significand, exponent);
     }
 }
 
@@ -217,29 +253,29 @@ fn f64_functions_are_those_on_patterns() {
     for x in PATTERNS_64 {
         let float = f64::from_bits(x);
         for y in PATTERNS_64 {
+            let by = f64::from_bits(y);
             for kind in KINDS {
-                assert_eq!(
-                    remainder_f64(float, f64::from_bits(y), kind)
-                        .map(|left| (left.value.to_bits(), left.quotient)),
-                    binary64::remainder(x, y, kind).map(|left| (left.value, left.quotient))
+                let (floats, patterns) = (remainder_f64, binary64::remainder);
+                alike!(
+                    floats(float, by, kind),
+                    patterns(x, y, kind),
+                    value,
+                    quotient
                 );
-                assert_eq!(
-                    remquo_f64(float, f64::from_bits(y), kind)
-                        .map(|left| (left.value.to_bits(), left.quotient)),
-                    binary64::remquo(x, y, kind).map(|left| (left.value, left.quotient))
+                let (floats, patterns) = (remquo_f64, binary64::remquo);
+                alike!(
+                    floats(float, by, kind),
+                    patterns(x, y, kind),
+                    value,
+                    quotient
                 );
             }
         }
         for power in POWERS {
-            assert_eq!(
-                scale_f64(float, power).map(|scaled| (scaled.value.to_bits(), scaled.rounding)),
-                binary64::scale(x, power).map(|scaled| (scaled.value, scaled.rounding))
-            );
+            let scaled = binary64::scale(x, power);
+            alike!(scale_f64(float, power), scaled, value, rounding);
         }
-        assert_eq!(
-            split_f64(float).map(|split| (split.significand.to_bits(), split.exponent)),
-            binary64::split(x).map(|split| (split.significand, split.exponent))
-        );
+        alike!(split_f64(float), binary64::split(x), significand, exponent);
     }
 }
 
@@ -257,8 +293,8 @@ fn a_truncated_remainder_is_that_of_the_language() {
 
 /// What `remquo` tells is what `remainder` tells, with the sign of the quotient.
 fn is_signed<T>(
-    remquo: Result<Remquo<T>, Refusal>,
-    remainder: Result<Remainder<T>, Refusal>,
+    remquo: Result<Remquo<T>, Refused<T>>,
+    remainder: Result<Remainder<T>, Refused<T>>,
     negative: bool,
 ) -> bool
 where
@@ -268,6 +304,7 @@ where
         (Ok(signed), Ok(left)) => {
             let sign = if negative { -1 } else { 1 };
             signed.value == left.value
+                && signed.denormal == left.denormal
                 && i64::from(signed.quotient) == sign * i64::from(left.quotient)
         }
         (Err(why), Err(other)) => why == other,
@@ -310,7 +347,12 @@ fn a_signed_quotient_is_the_magnitude_with_a_sign() {
                 );
                 let unsupported = number(1, 1);
                 let told = x87::remquo(a, unsupported, kind);
-                assert_eq!(told, Err(Refusal::Unsupported));
+                let refused = Refused {
+                    refusal: Refusal::Unsupported,
+                    value: x87::HOUSE_NAN,
+                    denormal: x87::denormal(a),
+                };
+                assert_eq!(told, Err(refused));
             }
         }
     }
@@ -366,30 +408,222 @@ fn an_infinite_divisor_has_quotient_0() {
     }
 }
 
+/// Patterns of a format, which has so many bits, so many of them below the exponent field, and a
+/// pattern of 1: what is denormal, and that every call tells it of either operand.
 #[test]
-fn nan_operands_are_refused() {
-    for pattern in [0x7FC0_0000, 0x7F80_0001, 0xFFFF_FFFF] {
-        let nan = f32::from_bits(pattern);
-        for kind in KINDS {
-            assert_eq!(remainder_f32(nan, 0.0, kind), Err(Refusal::Nan));
-            assert_eq!(remainder_f32(f32::INFINITY, nan, kind), Err(Refusal::Nan));
-            assert_eq!(remquo_f32(nan, 0.0, kind), Err(Refusal::Nan));
-            assert_eq!(remquo_f32(f32::INFINITY, nan, kind), Err(Refusal::Nan));
-        }
-        assert_eq!(scale_f32(nan, 1), Err(Refusal::Nan));
-        assert_eq!(split_f32(nan), Err(Refusal::Nan));
+fn denormals_are_told() {
+    macro_rules! told {
+        ($format:ident, $pattern:ty, $bits:literal, $stored:literal, $one:literal) => {
+            let (field, one): ($pattern, $pattern) = (1 << $stored, $one);
+            for sign in [0, 1 << ($bits - 1)] {
+                for (pattern, denormal) in [
+                    (0, false),
+                    (1, true),
+                    (field - 1, true),
+                    (field, false),
+                    (field + 1, false),
+                    (one, false),
+                ] {
+                    let x: $pattern = sign | pattern;
+                    assert_eq!($format::denormal(x), denormal, "{x:X}");
+                    assert_eq!($format::scale(x, -3).unwrap().denormal, denormal);
+                    let split = $format::split(x);
+                    assert_eq!(split.map_or(false, |split| split.denormal), denormal);
+                    for kind in KINDS {
+                        // a zero divisor is refused, and tells it too
+                        for (x, y) in [(x, one), (one, x), (x, 0), (x, x)] {
+                            let told = $format::remainder(x, y, kind);
+                            let told = told.map_or_else(|why| why.denormal, |left| left.denormal);
+                            assert_eq!(told, denormal, "{x:X} {y:X}");
+                            let told = $format::remquo(x, y, kind);
+                            let told = told.map_or_else(|why| why.denormal, |left| left.denormal);
+                            assert_eq!(told, denormal, "{x:X} {y:X}");
+                        }
+                    }
+                }
+            }
+        };
     }
-    for pattern in [0x7FF8_0000_0000_0000, 0x7FF0_0000_0000_0001, u64::MAX] {
-        let nan = f64::from_bits(pattern);
-        for kind in KINDS {
-            assert_eq!(remainder_f64(nan, 0.0, kind), Err(Refusal::Nan));
-            assert_eq!(remainder_f64(f64::INFINITY, nan, kind), Err(Refusal::Nan));
-            assert_eq!(remquo_f64(nan, 0.0, kind), Err(Refusal::Nan));
-            assert_eq!(remquo_f64(f64::INFINITY, nan, kind), Err(Refusal::Nan));
+    told!(binary16, u16, 16, 10, 0x3C00);
+    told!(binary32, u32, 32, 23, 0x3F80_0000);
+    told!(binary64, u64, 64, 52, 0x3FF0_0000_0000_0000);
+}
+
+/// Of either operand of a step and a run, under every number that they have but 6.
+#[test]
+fn steps_tell_denormals() {
+    let (one, two_to_65) = (number(1 << 63, 0x3FFF), number(1 << 63, 0x3FFF + 65));
+    let [zero, infinity, nan, unsupported] = [
+        number(0, 0x8000),
+        number(1 << 63, 0x7FFF),
+        number(5 << 61, 0xFFFF),
+        number(1, 1),
+    ];
+    for denormal in [
+        number(1, 0),
+        number(u64::MAX >> 1, 0x8000),
+        number(3 << 62, 0),
+    ] {
+        for (x, y) in [
+            (denormal, one),
+            (two_to_65, denormal),
+            (denormal, denormal),
+            (denormal, unsupported),
+            (unsupported, denormal),
+            (denormal, nan),
+            (nan, denormal),
+            (infinity, denormal),
+            (denormal, infinity),
+            (denormal, zero),
+        ] {
+            for kind in KINDS {
+                let step = x87::step(x, y, 63, kind);
+                let run = x87::run(x, y, 63, kind, 1);
+                for told in [step, run, x87::run(x, y, 32, kind, 0)] {
+                    assert!(told.map_or_else(|why| why.denormal, |told| told.denormal));
+                }
+                let bad = x87::step(x, y, 64, kind).unwrap_err();
+                assert_eq!((bad.refusal, bad.denormal), (Refusal::BadSize, false));
+                assert_eq!(x87::run(x, y, 31, kind, 1), Err(bad));
+                let short = x87::run_into(x, y, 31, kind, 1, &mut [0; 19]).unwrap_err();
+                assert_eq!((short.refusal, short.denormal), (Refusal::BadLength, true));
+            }
         }
-        assert_eq!(scale_f64(nan, 1), Err(Refusal::Nan));
-        assert_eq!(split_f64(nan), Err(Refusal::Nan));
     }
+    for x in [one, zero, infinity, nan, unsupported, number(1 << 63, 1)] {
+        for y in [one, zero, infinity, nan, unsupported, number(1 << 63, 1)] {
+            let told = x87::step(x, y, 63, Kind::Nearest);
+            assert!(!told.map_or_else(|why| why.denormal, |told| told.denormal));
+        }
+    }
+}
+
+/// NaNs of a format, which has so many bits, so many of them below the exponent field.
+#[test]
+fn a_nan_is_told_quiet() {
+    macro_rules! told {
+        ($format:ident, $pattern:ty, $bits:literal, $stored:literal) => {
+            let (sign, quiet): ($pattern, $pattern) = (1 << ($bits - 1), 1 << ($stored - 1));
+            let infinity = $format::HOUSE_NAN & !quiet;
+            let (least, most) = (infinity | 1, infinity | (quiet - 1));
+            let refused = |value, denormal| Refused {
+                refusal: Refusal::Nan,
+                value,
+                denormal,
+            };
+            for (x, y, nan) in [
+                (least, most, most),
+                (most, sign | least, most),
+                (least, sign | most, sign | most),
+                (least, sign | least, least),
+                (sign | least, least, sign | least),
+                // as given: a quiet one is larger than any other
+                (quiet | least, most, least),
+                (sign | most, quiet | infinity, infinity),
+                (least, infinity, least),
+                (infinity, sign | least, sign | least),
+                (sign | most, 0, sign | most),
+                (0, most, most),
+                (least, 1, least),
+                (1, sign | quiet | most, sign | most),
+            ] {
+                let nan = nan | quiet;
+                assert_eq!($format::nan(x, y), nan, "{x:X} {y:X}");
+                let refused = refused(nan, x == 1 || y == 1);
+                for kind in KINDS {
+                    assert_eq!($format::remainder(x, y, kind), Err(refused));
+                    assert_eq!($format::remquo(x, y, kind), Err(refused));
+                }
+            }
+            for x in [
+                least,
+                most,
+                sign | least,
+                quiet | least,
+                sign | quiet | most,
+            ] {
+                assert_eq!($format::scale(x, 1), Err(refused(x | quiet, false)));
+                assert_eq!($format::split(x), Err(refused(x | quiet, false)));
+            }
+            for (x, y) in [(0, 1), (infinity, sign | infinity)] {
+                assert_eq!($format::nan(x, y), $format::HOUSE_NAN);
+            }
+        };
+    }
+    told!(binary16, u16, 16, 10);
+    told!(binary32, u32, 32, 23);
+    told!(binary64, u64, 64, 52);
+}
+
+#[test]
+fn an_x87_nan_is_told_quiet() {
+    let (least, most) = (1 << 63 | 1, 3 << 62 | u64::MAX >> 2);
+    let signalling = 1 << 63 | u64::MAX >> 2;
+    let refused = |refusal, value| Refused {
+        refusal,
+        value,
+        denormal: false,
+    };
+    for (x, y, nan) in [
+        ((least, 0x7FFF), (signalling, 0xFFFF), (signalling, 0xFFFF)),
+        ((most, 0xFFFF), (signalling, 0x7FFF), (most, 0xFFFF)),
+        ((least, 0xFFFF), (least, 0x7FFF), (least, 0xFFFF)),
+        ((signalling, 0x7FFF), (3 << 62, 0xFFFF), (3 << 62, 0xFFFF)),
+        ((0, 0), (least, 0xFFFF), (least, 0xFFFF)),
+        ((least, 0x7FFF), (1 << 63, 0xFFFF), (least, 0x7FFF)),
+    ] {
+        let [x, y, nan] = [x, y, nan].map(|(significand, word)| number(significand, word));
+        let nan = number(nan.significand | 1 << 62, nan.word);
+        assert_eq!(x87::nan(x, y), nan);
+        let refused = refused(Refusal::Nan, nan);
+        for kind in KINDS {
+            assert_eq!(x87::remainder(x, y, kind), Err(refused));
+            assert_eq!(x87::remquo(x, y, kind), Err(refused));
+            assert_eq!(x87::step(x, y, 63, kind), Err(refused));
+            assert_eq!(x87::run(x, y, 32, kind, 0), Err(refused));
+        }
+    }
+    let nan = number(least, 0xFFFF);
+    let quiet = number(3 << 62 | 1, 0xFFFF);
+    assert_eq!(x87::scale(nan, 1), Err(refused(Refusal::Nan, quiet)));
+    assert_eq!(x87::split(nan), Err(refused(Refusal::Nan, quiet)));
+    // beside an unsupported operand it is there, and is not what is told
+    for (x, y) in [(nan, number(1, 1)), (number(1, 1), nan)] {
+        assert_eq!(x87::nan(x, y), quiet);
+        let told = x87::remainder(x, y, Kind::Nearest);
+        let unsupported = refused(Refusal::Unsupported, x87::HOUSE_NAN);
+        assert_eq!(told, Err(unsupported));
+    }
+}
+
+/// The value of every refusal but one by a NaN.
+#[test]
+fn other_refusals_have_the_house_nan() {
+    let (one, zero, infinity) = (0x3C00, 0x8000, 0xFC00);
+    for (told, refusal) in [
+        (
+            binary16::remainder(infinity, one, Kind::Nearest).map(drop),
+            Refusal::Infinite,
+        ),
+        (
+            binary16::remquo(infinity, zero, Kind::Nearest).map(drop),
+            Refusal::Infinite,
+        ),
+        (
+            binary16::remainder(one, zero, Kind::Truncated).map(drop),
+            Refusal::ZeroDivisor,
+        ),
+        (binary16::split(infinity).map(drop), Refusal::Infinite),
+        (binary16::split(zero).map(drop), Refusal::ZeroSplit),
+    ] {
+        let refused = told.unwrap_err();
+        assert_eq!((refused.refusal, refused.value), (refusal, 0x7E00));
+    }
+    assert_eq!(binary32::split(0).unwrap_err().value, 0x7FC0_0000);
+    assert_eq!(binary64::split(0).unwrap_err().value, 0x7FF8_0000_0000_0000);
+    let house_nan = number(0xC000_0000_0000_0000, 0x7FFF);
+    assert_eq!(x87::split(number(0, 0)).unwrap_err().value, house_nan);
+    assert_eq!(split_f32(0.0).unwrap_err().value.to_bits(), 0x7FC0_0000);
 }
 
 #[test]

@@ -9,7 +9,7 @@ use std::sync::atomic::{AtomicI64, Ordering};
 pub type Change<T> = fn(&mut T);
 
 /// One for each field of an answer.
-pub const CHANGES: [(&str, Change<Answer>); 7] = [
+pub const CHANGES: [(&str, Change<Answer>); 8] = [
     ("a bit of the value", |answer| answer.value ^= 1),
     ("the number", |answer| answer.number = 5),
     ("the quotient", |answer| answer.quotient ^= 1 << 30),
@@ -17,7 +17,24 @@ pub const CHANGES: [(&str, Change<Answer>); 7] = [
     ("the steps", |answer| answer.steps += 1),
     ("what it says", |answer| answer.says ^= 2),
     ("the exponent", |answer| answer.exponent -= 1),
+    ("what it tells of denormals", |answer| {
+        answer.denormal ^= true
+    }),
 ];
+
+/// The operations, by the names of their files, and their calls.
+pub const OPERATIONS: [(&str, IsOne); 8] = [
+    ("scale", |call| matches!(call, Call::Scale(..))),
+    ("split", |call| matches!(call, Call::Split(..))),
+    ("rem", |call| matches!(call, Call::Remainder(..))),
+    ("remquo", |call| matches!(call, Call::Remquo(..))),
+    ("step", |call| matches!(call, Call::Step(..))),
+    ("run", |call| matches!(call, Call::Run(..))),
+    ("denormal", |call| matches!(call, Call::Denormal(..))),
+    ("nan", |call| matches!(call, Call::Nan(..))),
+];
+
+pub type IsOne = fn(&Call) -> bool;
 
 /// The library, with other answers to calls.
 pub struct Answering(pub Answerer);
@@ -40,6 +57,8 @@ pub struct Altered {
     /// How many of them come before that one.
     left: AtomicI64,
     answer: Option<Change<Answer>>,
+    /// Which calls count.
+    is_one: IsOne,
     list: Option<Change<Result<Folded, u8>>>,
     stem: Option<Change<Result<Stem, u8>>>,
     point: Option<Change<Result<Point, u8>>>,
@@ -53,6 +72,7 @@ impl Altered {
         Altered {
             left,
             answer: None,
+            is_one: |_| true,
             list: None,
             stem: None,
             point: None,
@@ -69,6 +89,14 @@ impl Altered {
         Altered {
             answer: Some(change),
             ..Altered::after(left)
+        }
+    }
+
+    /// The third answer to such calls.
+    pub fn answer_to(is_one: IsOne, change: Change<Answer>) -> Altered {
+        Altered {
+            is_one,
+            ..Altered::later_answer(change, 2)
         }
     }
 
@@ -118,7 +146,8 @@ impl Implementation for Altered {
 
     fn answer(&self, call: &Call) -> Answer {
         let answer = Library.answer(call);
-        self.told(self.answer, answer.number == 0, answer)
+        let counts = answer.number == 0 && (self.is_one)(call);
+        self.told(self.answer, counts, answer)
     }
 
     fn fold(&self, kind: Kind, dividends: &[u64], divisor: u64) -> Result<Folded, u8> {
