@@ -8,7 +8,7 @@
 #include <math.h>
 #include <stdio.h>
 
-enum { READINGS = 5 };
+enum { READINGS = 6 };
 
 /*
  * One angle a call. The truncated remainder keeps the angle's sign, and zk_rem64 counts the whole turns without one. The nearest remainder
@@ -28,27 +28,44 @@ static void fold_angle(double degrees) {
            degrees > -countable && degrees < countable ? "" : ", turns modulo 2^31");
 }
 
-/* A whole list a call, with a byte for each quotient. One reading is infinite: the gauge had lost the log there. */
-static void fold_feed(double roller) {
-    static const double feed[READINGS] = {100.5, 3300.0, 1e15 + 0.125, -812.75, INFINITY};
+/* A NaN whose last byte is the number of a fault, as the gauge writes it. */
+static uint64_t faulty(uint8_t number) {
+    return ZK_HOUSE_NAN64 | number;
+}
+
+/*
+ * A whole list a call, with a byte for each quotient. One reading is infinite: the gauge had lost the log there. One is a NaN, which stays
+ * what it is: the gauge's number can be read from the result.
+ */
+static void fold_feed(uint64_t roller) {
+    static const double feed[READINGS - 1] = {100.5, 3300.0, 1e15 + 0.125, -812.75, INFINITY};
     uint64_t x[READINGS], on_roller[READINGS];
     uint8_t quotients[READINGS];
     size_t marked, i;
     uint8_t number;
-    for (i = 0; i < READINGS; i++)
+    for (i = 0; i < READINGS - 1; i++)
         x[i] = zk_pattern_of_double(feed[i]);
-    number = zk_fold64(x, READINGS, on_roller, READINGS, quotients, READINGS, zk_pattern_of_double(roller), ZK_TRUNCATED, &marked);
+    x[READINGS - 1] = faulty(7);
+    number = zk_fold64(x, READINGS, on_roller, READINGS, quotients, READINGS, roller, ZK_TRUNCATED, &marked);
+    printf("roller %g mm: ", zk_double_of_pattern(roller));
     if (number != ZK_FINISHED) {
-        /* nothing was written, marked included */
-        printf("roller %g mm: refused with %u\n", roller, number);
+        /* nothing was written, marked included; which NaN it was is asked */
+        printf("refused with %u", number);
+        if (number == ZK_NAN)
+            printf(", the gauge's fault %u", (unsigned)(zk_nan64(roller, roller) & 255));
+        printf("\n");
         return;
     }
-    printf("roller %g mm: %u of %u readings have no place on it\n", roller, (unsigned)marked, (unsigned)READINGS);
-    for (i = 0; i < READINGS; i++)
-        if (quotients[i] == ZK_MARK)
-            printf("%24.17g mm: marked\n", feed[i]);
+    printf("%u of %u readings have no place on it\n", (unsigned)marked, (unsigned)READINGS);
+    for (i = 0; i < READINGS; i++) {
+        printf("%24.17g mm: ", zk_double_of_pattern(x[i]));
+        if (quotients[i] != ZK_MARK)
+            printf("%.17g mm on the roller, turn %u modulo 8\n", zk_double_of_pattern(on_roller[i]), quotients[i]);
+        else if (on_roller[i] == ZK_HOUSE_NAN64)
+            printf("marked\n");
         else
-            printf("%24.17g mm: %.17g mm on the roller, turn %u modulo 8\n", feed[i], zk_double_of_pattern(on_roller[i]), quotients[i]);
+            printf("marked, the gauge's fault %u\n", (unsigned)(on_roller[i] & 255));
+    }
 }
 
 int main(void) {
@@ -58,7 +75,8 @@ int main(void) {
     fold_angle(-1000.0);
     fold_angle(1e11);
     fold_angle(1e22);
-    fold_feed(812.5);
-    fold_feed(0.0);
+    fold_feed(zk_pattern_of_double(812.5));
+    fold_feed(zk_pattern_of_double(0.0));
+    fold_feed(faulty(3));
     return 0;
 }

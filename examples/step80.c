@@ -5,6 +5,7 @@
  *
  * Both are in the sum of the steps' quotient parts, not in the last step's alone: 2^65 by 3 in steps of size 63 shows the difference. Parts
  * are told modulo 2^31, and so is their sum; the octant is the sum modulo 8.
+ * Of a step that is refused it prints the number, and which operand was bad.
  */
 #include "zukemoriha.h"
 
@@ -34,6 +35,19 @@ static void print_quotient(uint32_t sum, uint8_t last) {
            zk_c0(last), zk_c3(last), zk_c1(last));
 }
 
+/* A refusal has written nothing: which NaN it speaks of, and whether an operand was denormal, is asked. */
+static void print_refusal(struct x87 x, struct x87 y, uint8_t number) {
+    struct x87 nan;
+    printf("refused with %u", number);
+    if (number == ZK_NAN) {
+        zk_nan80(x.significand, x.word, y.significand, y.word, &nan.significand, &nan.word);
+        printf(": the NaN %04X%016" PRIX64, nan.word, nan.significand);
+    }
+    if (number != ZK_BAD_SIZE && (zk_denormal80(x.significand, x.word) || zk_denormal80(y.significand, y.word)))
+        printf(", with a denormal operand");
+    printf("\n");
+}
+
 static int step_to_end(struct x87 x, struct x87 y, uint32_t size, uint32_t kind) {
     uint8_t block[ZK_BLOCK_LENGTH];
     uint32_t sum = 0, steps = 0;
@@ -43,7 +57,7 @@ static int step_to_end(struct x87 x, struct x87 y, uint32_t size, uint32_t kind)
     do {
         number = zk_step80(x.significand, x.word, y.significand, y.word, size, kind, block, sizeof block);
         if (!zk_is_answer(number)) {
-            printf("refused with %u\n", number);
+            print_refusal(x, y, number);
             return 1;
         }
         x.significand = zk_block_significand(block);
@@ -60,6 +74,7 @@ static int step_to_end(struct x87 x, struct x87 y, uint32_t size, uint32_t kind)
 int main(int argc, char **argv) {
     static const struct x87 two_to_65 = {UINT64_C(0x8000000000000000), 0x4040}, three = {UINT64_C(0xC000000000000000), 0x4000};
     static const struct x87 reading = {UINT64_C(0x9A209A84FBCFF799), 0x40A8}, quarter_pi = {UINT64_C(0xC90FDAA22168C235), 0x3FFE};
+    static const struct x87 denormal = {1, 0}, signalling = {UINT64_C(0x8000000000000007), 0xFFFF};
     struct x87 x, y;
     if (argc == 5 && read_x87(argv[1], &x) && read_x87(argv[2], &y))
         return step_to_end(x, y, (uint32_t)strtoul(argv[3], NULL, 10), (uint32_t)strtoul(argv[4], NULL, 10));
@@ -67,6 +82,8 @@ int main(int argc, char **argv) {
         fprintf(stderr, "usage: step80 [X Y SIZE KIND]\n");
         return 2;
     }
-    return step_to_end(two_to_65, three, 63, ZK_TRUNCATED) | step_to_end(two_to_65, three, 63, ZK_NEAREST) |
-           step_to_end(reading, quarter_pi, 40, ZK_TRUNCATED);
+    if (step_to_end(two_to_65, three, 63, ZK_TRUNCATED) || step_to_end(two_to_65, three, 63, ZK_NEAREST) ||
+        step_to_end(reading, quarter_pi, 40, ZK_TRUNCATED))
+        return 1;
+    return !step_to_end(denormal, signalling, 63, ZK_TRUNCATED);
 }

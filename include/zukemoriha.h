@@ -6,11 +6,14 @@
  *
  * Rules for every function
  *
- *   - Every bit pattern is taken. A function always returns one of the numbers 0 to 16 below.
+ *   - Every bit pattern is taken. A function always returns one of the numbers 0 to 16 below, but for zk_denormal*, which return 0 or 1,
+ *     and zk_nan*, which give a NaN: these refuse nothing.
  *   - 0, 1 and 7 are answers: everything that the function promises has been written. All other numbers are refusals: what was lent is
  *     as it was, byte for byte, *value, *valuew, *quotient, *marked, *written, the block and the room included.
  *   - Where several refusals apply, the first in the order 9, 6, 2, 3, 4, 5, 8 is returned; 7 comes after them. Stem files have orders
  *     of their own (zk_stem_open, zk_stem_fold, zk_stem_write).
+ *   - A refusal writes nothing, so a host that wants to know which operand was bad asks: under 3 zk_nan* for the NaN itself. Whether an
+ *     operand was denormal it asks zk_denormal*, under any number but 6.
  *   - kind: 0 is the truncated remainder (C's fmod, the processor's FPREM), any other number is the nearest one (C's remainder, IEEE 754,
  *     FPREM1). The kind of a stem file is another thing: ZK_TURN or ZK_ROLLER, and no other number.
  *   - The host's duty, which no function can check: each pointer is not null and is aligned for its type, also where a length is 0; it
@@ -40,18 +43,18 @@
 #include <stdint.h>
 #include <string.h>
 
-#define ZK_VERSION "0.2.0"
+#define ZK_VERSION "0.3.0"
 
 #ifdef __cplusplus
 extern "C" {
 #endif
 
-/* What every function returns. */
+/* What every function returns, but for zk_denormal* and zk_nan*. */
 enum zk_number {
     ZK_FINISHED = 0,      /* the result is there */
     ZK_PARTIAL = 1,       /* step only: the step was partial, its value is there, another step is needed */
     ZK_UNSUPPORTED = 2,   /* an x87 operand has an exponent other than 0 and no leading bit (see zk_rem80) */
-    ZK_NAN = 3,           /* an operand is NaN */
+    ZK_NAN = 3,           /* an operand is NaN: zk_nan* give it */
     ZK_INFINITE = 4,      /* the dividend is infinite; or an infinity was to be split */
     ZK_ZERO_DIVISOR = 5,  /* the divisor is zero */
     ZK_BAD_SIZE = 6,      /* step and run: the size is not from 32 to 63 */
@@ -82,8 +85,14 @@ enum zk_says {
 #define ZK_SIZE_LEAST 32u
 #define ZK_SIZE_MOST 63u
 
-/* The quotient byte of a place in a folded list that has no remainder, and the pattern that is written there. */
+/* The quotient byte of a place in a folded list that has no remainder. */
 #define ZK_MARK 255u
+
+/*
+ * The house NaN of binary64: what is written where there is no value and no NaN to give. That is the place of an infinite x[i] in a folded
+ * list, the reading of a stem file's point that cannot be folded, and zk_nan64 of two operands that are no NaNs. It is positive and quiet,
+ * and its other fraction bits are 0.
+ */
 #define ZK_HOUSE_NAN64 UINT64_C(0x7FF8000000000000)
 
 /*
@@ -177,8 +186,34 @@ uint8_t zk_split64(uint64_t x, uint64_t *significand, int32_t *exponent);
 uint8_t zk_split80(uint64_t x, uint16_t xw, uint64_t *significand, uint16_t *significandw, int32_t *exponent);
 
 /*
- * Folds a list: results[i] and quotients[i] get the remainder of x[i] by y and |Q| modulo 8. A NaN or infinite x[i] gets ZK_HOUSE_NAN64
- * and the byte ZK_MARK instead, and *marked gets the number of those places. nx, nr and nq count elements.
+ * Whether a pattern is a denormal's: 1 where it is not zero and its exponent field is 0, of either sign, else 0. In x87 (e = 0 and s not 0,
+ * see zk_rem80) pseudo-denormals count; unsupported patterns, whose e is from 1, do not.
+ *
+ * A remainder, step, run, scaling or split had a denormal operand if any of its operands, as given, is one, under every number but 6 (a
+ * wrong size), where it had none. Runs that are joined after a 7 had what the first one had: the value that it reached is not asked.
+ */
+uint8_t zk_denormal16(uint16_t x);
+uint8_t zk_denormal32(uint32_t x);
+uint8_t zk_denormal64(uint64_t x);
+uint8_t zk_denormal80(uint64_t x, uint16_t xw);
+
+/*
+ * The NaN that 3 speaks of, of the operands x and y of the call that was refused; of a scaling or a split hand its operand twice, of a list
+ * its divisor. With one NaN it is that one. With two it is the one with the larger significand, as given, and x where the significands are
+ * equal. It is made quiet: the top fraction bit (bit 9, 22 or 51; in x87 bit 62 of the significand) is set, and the sign and all other bits
+ * stay.
+ * Where neither is a NaN, it is the house NaN: 7E00, 7FC00000, ZK_HOUSE_NAN64, in x87 the significand C000000000000000 and the word 7FFF.
+ * zk_nan80 always writes *value and *valuew. It gives a NaN beside an unsupported operand too, although calls refuse such a pair with 2.
+ */
+uint16_t zk_nan16(uint16_t x, uint16_t y);
+uint32_t zk_nan32(uint32_t x, uint32_t y);
+uint64_t zk_nan64(uint64_t x, uint64_t y);
+void zk_nan80(uint64_t x, uint16_t xw, uint64_t y, uint16_t yw, uint64_t *value, uint16_t *valuew);
+
+/*
+ * Folds a list: results[i] and quotients[i] get the remainder of x[i] by y and |Q| modulo 8. Where there is none, quotients[i] gets ZK_MARK
+ * instead, and results[i] a NaN: of a NaN x[i] that NaN, made quiet (zk_nan64), of an infinite x[i] ZK_HOUSE_NAN64. *marked gets the number
+ * of those places. nx, nr and nq count elements.
  * Returns 0, or refuses the whole list with 9 (the three lengths are not equal), 3 (y is NaN) or 5 (y is zero), also if it is empty.
  */
 uint8_t zk_fold64(const uint64_t *x, size_t nx, uint64_t *results, size_t nr, uint8_t *quotients, size_t nq, uint64_t y, uint32_t kind,
@@ -212,7 +247,7 @@ uint8_t zk_stem_open(const uint8_t *file, size_t length, uint32_t *kind, uint64_
 /*
  * Folds one point in place: *reading becomes its truncated remainder by the period, below the period in magnitude and with the sign of
  * what was divided, also where it is zero. From a roller's reading the origin is subtracted first, rounded once, ties to even. A reading
- * that is NaN or infinite, or is infinite after that subtraction, becomes ZK_HOUSE_NAN64, and the call returns 0 too.
+ * that is NaN, whichever one, or infinite, or is infinite after that subtraction, becomes ZK_HOUSE_NAN64, and the call returns 0 too.
  * The radius of a point stays as it is, so it is not passed.
  * Returns 0, or refuses with 12 (a kind above 1), else with 15 (a gauge that no file gives, a turn with an origin other than 0 among them).
  */

@@ -32,6 +32,7 @@ header() {
 
 header '$a uint8_t zk_more(void);' '^< zk_more$'
 header '/^uint8_t zk_split16(/d' '^> zk_split16$'
+header '/^void zk_nan80(/d' '^> zk_nan80$'
 header '$a static inline int zk_taken(bool taken) { return taken; }' 'zukemoriha.h:.*bool'
 header '$a static inline int zk_taken(int class) { return class; }' 'zukemoriha.h:.* error: '
 

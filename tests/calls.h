@@ -45,6 +45,15 @@ static inline int is_negative(int f, struct pattern x) {
     return f == X87 ? x.word >> 15 : (int)(x.bits >> (8 * formats[f].width - 1) & 1);
 }
 
+/* With the other sign, if it is to be. */
+static inline struct pattern negated(int f, struct pattern x, int is) {
+    if (f == X87)
+        x.word ^= (uint16_t)(is << 15);
+    else
+        x.bits ^= (uint64_t)is << (8 * formats[f].width - 1);
+    return x;
+}
+
 /* A pattern as text; four at a time may stand in one printf. */
 static inline const char *text(int f, struct pattern x) {
     static char rooms[4][24];
@@ -244,6 +253,36 @@ static inline struct reply call_split(int f, struct pattern x) {
     }
     r.touched = !kept(&value, answered ? (size_t)formats[f].width : 0) || !kept(&word, answered && f == X87 ? 2 : 0) ||
                 !kept(&exponent, answered ? 4 : 0);
+    return r;
+}
+
+/* Whether a pattern is a denormal's, as it is told: 0 and 1 are the only numbers for it. */
+static inline unsigned call_denormal(int f, struct pattern x) {
+    if (f == BINARY16)
+        return zk_denormal16((uint16_t)x.bits);
+    if (f == BINARY32)
+        return zk_denormal32((uint32_t)x.bits);
+    return f == BINARY64 ? zk_denormal64(x.bits) : zk_denormal80(x.bits, x.word);
+}
+
+/* The NaN that 3 speaks of, which comes without a number. Only zk_nan80 is lent something: it writes all of it, whatever it is given. */
+static inline struct reply call_nan(int f, struct pattern x, struct pattern y) {
+    struct room value, word;
+    struct reply r = {0};
+    void *v, *w;
+    if (f == BINARY16)
+        r.value.bits = zk_nan16((uint16_t)x.bits, (uint16_t)y.bits);
+    else if (f == BINARY32)
+        r.value.bits = zk_nan32((uint32_t)x.bits, (uint32_t)y.bits);
+    else if (f == BINARY64)
+        r.value.bits = zk_nan64(x.bits, y.bits);
+    if (f != X87)
+        return r;
+    v = lend(&value);
+    w = lend(&word);
+    zk_nan80(x.bits, x.word, y.bits, y.word, (uint64_t *)v, (uint16_t *)w);
+    r.value = taken(f, &value, &word);
+    r.touched = !kept(&value, 8) || !kept(&word, 2);
     return r;
 }
 

@@ -105,7 +105,18 @@ untouched   | fold-divisor-before-length                 | ^number of a refused 
 untouched   | fold-refusal-writes                        | ^memory after a refused list
 untouched   | fold-marked-list-is-refused                | ^number of a list,
 untouched   | fold-mark-is-negative                      | ^memory after a list,
+untouched   | fold-nan-divisor-at-each-place             | ^number of a refused list
+untouched   | fold-house-nan-for-a-nan                   | ^memory after a list,
+untouched   | fold-nan-not-quiet                         | ^memory after a list,
+untouched   | fold-nan-loses-its-sign                    | ^memory after a list,
+untouched   | fold-nan-loses-its-lower-half              | ^memory after a list,
+untouched   | fold-nan-not-marked                        | ^memory after a list,
+untouched   | fold-nan-not-counted                       | ^memory after a list,
+untouched   | fold-infinity-kept                         | ^memory after a list,
+untouched   | fold-infinity-has-its-sign                 | ^memory after a list,
 untouched   | fold-marked-list-is-refused                | ^number of a list by infinity
+untouched   | fold-house-nan-for-a-nan                   | ^memory after a list by infinity
+untouched   | fold-infinity-kept                         | ^memory after a list by infinity
 untouched   | fold-mark-is-negative                      | ^memory after a list by infinity
 untouched   | fold-lengths-compared-in-32-bits           | ^number of a long list of dividends
 untouched   | fold-lengths-compared-in-32-bits           | ^number of a long list of results
@@ -203,6 +214,94 @@ untouched   | scale32-nothing-left-is-up                 | ^scaling down, binary
 untouched   | scale80-half-of-the-smallest-is-up         | ^scaling at a half, x87
 untouched   | split64-denormal-exponent-from-its-field   | ^an exponent, binary64
 untouched   | split64-denormal-exponent-from-its-field   | ^splitting and back, binary64
+nans 2000   | nan16-smaller-significand                  | ^a class by a class: the NaN of binary16
+nans 2000   | nan16-divisor-of-equal-significands        | ^a class by a class: the NaN of binary16
+nans 2000   | nan16-dividend-of-two                      | ^a class by a class: the NaN of binary16
+nans 2000   | nan16-quiet-before-comparing               | ^a class by a class: the NaN of binary16
+nans 2000   | nan16-signs-compared                       | ^a class by a class: the NaN of binary16
+nans 2000   | nan16-loses-its-sign                       | ^a class by a class: the NaN of binary16
+nans 2000   | nan16-not-quiet                            | ^a class by a class: the NaN of binary16
+nans 2000   | nan16-house-nan                            | ^a class by a class: the NaN of binary16
+nans 2000   | nan16-house-nan-is-negative                | ^a class by a class: the NaN of binary16
+nans 2000   | nan16-infinity-counts                      | ^a class by a class: the NaN of binary16
+nans 2000   | nan32-smaller-significand                  | ^a class by a class: the NaN of binary32
+nans 2000   | nan32-divisor-of-equal-significands        | ^a class by a class: the NaN of binary32
+nans 2000   | nan32-dividend-of-two                      | ^a class by a class: the NaN of binary32
+nans 2000   | nan32-quiet-before-comparing               | ^a class by a class: the NaN of binary32
+nans 2000   | nan32-signs-compared                       | ^a class by a class: the NaN of binary32
+nans 2000   | nan32-loses-its-sign                       | ^a class by a class: the NaN of binary32
+nans 2000   | nan32-not-quiet                            | ^a class by a class: the NaN of binary32
+nans 2000   | nan32-house-nan                            | ^a class by a class: the NaN of binary32
+nans 2000   | nan32-house-nan-is-negative                | ^a class by a class: the NaN of binary32
+nans 2000   | nan32-infinity-counts                      | ^a class by a class: the NaN of binary32
+nans 2000   | nan64-smaller-significand                  | ^a class by a class: the NaN of binary64
+nans 2000   | nan64-divisor-of-equal-significands        | ^a class by a class: the NaN of binary64
+nans 2000   | nan64-dividend-of-two                      | ^a class by a class: the NaN of binary64
+nans 2000   | nan64-quiet-before-comparing               | ^a class by a class: the NaN of binary64
+nans 2000   | nan64-signs-compared                       | ^a class by a class: the NaN of binary64
+nans 2000   | nan64-loses-its-sign                       | ^a class by a class: the NaN of binary64
+nans 2000   | nan64-not-quiet                            | ^a class by a class: the NaN of binary64
+nans 2000   | nan64-house-nan                            | ^a class by a class: the NaN of binary64
+nans 2000   | nan64-house-nan-is-negative                | ^a class by a class: the NaN of binary64
+nans 2000   | nan64-infinity-counts                      | ^a class by a class: the NaN of binary64
+nans 2000   | nan80-smaller-significand                  | ^a class by a class: the NaN of x87
+nans 2000   | nan80-divisor-of-equal-significands        | ^a class by a class: the NaN of x87
+nans 2000   | nan80-dividend-of-two                      | ^a class by a class: the NaN of x87
+nans 2000   | nan80-quiet-before-comparing               | ^a class by a class: the NaN of x87
+nans 2000   | nan80-signs-compared                       | ^a class by a class: the NaN of x87
+nans 2000   | nan80-loses-its-sign                       | ^a class by a class: the NaN of x87
+nans 2000   | nan80-not-quiet                            | ^a class by a class: the NaN of x87
+nans 2000   | nan80-house-nan                            | ^a class by a class: the NaN of x87
+nans 2000   | nan80-house-nan-is-negative                | ^a class by a class: the NaN of x87
+nans 2000   | nan80-infinity-counts                      | ^a class by a class: the NaN of x87
+nans 2000   | nan80-positive-of-equal-significands       | ^a class by a class: the NaN of x87
+nans 2000   | nan80-lost-beside-unsupported              | ^a class by a class: the NaN of x87
+nans 2000   | nan80-pseudo-nan-counts                    | ^a class by a class: the NaN of x87
+nans 2000   | nan80-only-the-significand-written         | ^a class by a class: the NaN of x87
+nans 2000   | nan80-only-the-word-written                | ^a class by a class: the NaN of x87
+nans 2000   | nan80-nothing-written-of-none              | ^a class by a class: the NaN of x87
+nans 2000   | nan80-writes-behind-the-word               | ^a class by a class: the NaN of x87
+nans 2000   | nan16-smaller-significand                  | ^a bit by a bit: the NaN of binary16
+nans 2000   | nan32-smaller-significand                  | ^a bit by a bit: the NaN of binary32
+nans 2000   | nan64-smaller-significand                  | ^a bit by a bit: the NaN of binary64
+nans 2000   | nan80-smaller-significand                  | ^a bit by a bit: the NaN of x87
+nans 2000   | nan64-compared-in-32-bits                  | ^a bit by a bit: the NaN of binary64
+nans 2000   | nan80-compared-in-32-bits                  | ^a bit by a bit: the NaN of x87
+nans 2000   | nan16-dividend-of-two                      | ^drawn: the NaN of binary16
+nans 2000   | nan32-dividend-of-two                      | ^drawn: the NaN of binary32
+nans 2000   | nan64-dividend-of-two                      | ^drawn: the NaN of binary64
+nans 2000   | nan80-dividend-of-two                      | ^drawn: the NaN of x87
+nans 2000   | nan16-divisor-of-equal-significands        | ^two halves: the NaN of
+nans 2000   | nan16-quiet-before-comparing               | ^two halves: the NaN of
+nans 2000   | nan16-infinity-counts                      | ^a half: the NaN of
+nans 2000   | nan16-not-quiet                            | ^by a half: the NaN of
+nans 2000   | denormal16-zero-counts                     | ^an exponent: denormal, binary16
+nans 2000   | denormal16-field-1-counts                  | ^an exponent: denormal, binary16
+nans 2000   | denormal16-negative-left-out               | ^an exponent: denormal, binary16
+nans 2000   | denormal32-zero-counts                     | ^an exponent: denormal, binary32
+nans 2000   | denormal32-field-1-counts                  | ^an exponent: denormal, binary32
+nans 2000   | denormal32-negative-left-out               | ^an exponent: denormal, binary32
+nans 2000   | denormal64-zero-counts                     | ^an exponent: denormal, binary64
+nans 2000   | denormal64-field-1-counts                  | ^an exponent: denormal, binary64
+nans 2000   | denormal64-negative-left-out               | ^an exponent: denormal, binary64
+nans 2000   | denormal80-zero-counts                     | ^an exponent: denormal, x87
+nans 2000   | denormal80-field-1-counts                  | ^an exponent: denormal, x87
+nans 2000   | denormal80-negative-left-out               | ^an exponent: denormal, x87
+nans 2000   | denormal32-told-by-its-last-byte           | ^an exponent: denormal, binary32
+nans 2000   | denormal80-pseudo-denormal-left-out        | ^an exponent: denormal, x87 [08]000[89A-F]
+nans 2000   | denormal80-unnormal-counts                 | ^an exponent: denormal, x87
+nans 2000   | denormal80-pseudo-nan-counts               | ^an exponent: denormal, x87 [7F]FFF
+nans 2000   | denormal16-negative-left-out               | ^a bit: denormal, binary16
+nans 2000   | denormal32-negative-left-out               | ^a bit: denormal, binary32
+nans 2000   | denormal64-negative-left-out               | ^a bit: denormal, binary64
+nans 2000   | denormal80-negative-left-out               | ^a bit: denormal, x87
+nans 2000   | denormal64-low-half-not-looked-at          | ^a bit: denormal, binary64
+nans 2000   | denormal16-field-1-counts                  | ^drawn: denormal, binary16
+nans 2000   | denormal32-field-1-counts                  | ^drawn: denormal, binary32
+nans 2000   | denormal64-field-1-counts                  | ^drawn: denormal, binary64
+nans 2000   | denormal80-field-1-counts                  | ^drawn: denormal, x87
+nans 2000   | denormal16-zero-counts                     | ^a half: denormal, binary16
+nans 1      | none                                       | drawn: .* has no pair
 chains 2000 | run-zero-loses-its-sign                    | ^run of
 chains 2000 | run-spent-by-its-last-step                 | ^run of
 chains 2000 | run-quotient-of-the-last-step              | ^run of
@@ -265,7 +364,16 @@ chains 20   | none                                       | pseudo-denormals: .* 
 chains 20   | none                                       | sums of chains: .* has no pair
 fold 20     | fold-marked-list-is-refused                | the list is refused
 fold 20     | fold-zero-loses-its-sign                   | the list's answer is not
-fold 20     | fold-mark-is-negative                      | the list's answer is not
+fold 20     | fold-mark-is-negative                      | an infinity's place has another mark
+fold 20     | fold-infinity-kept                         | an infinity's place has another mark
+fold 20     | fold-infinity-has-its-sign                 | an infinity's place has another mark
+fold 20     | fold-house-nan-for-a-nan                   | a NaN's place has another one
+fold 20     | fold-nan-not-quiet                         | a NaN's place has another one
+fold 20     | fold-nan-loses-its-sign                    | a NaN's place has another one
+fold 20     | fold-nan-loses-its-lower-half              | a NaN's place has another one
+fold 20     | fold-nan-of-the-first-place                | a NaN's place has another one
+fold 20     | fold-nan-not-marked                        | a NaN's place has another one
+fold 20     | fold-nan-not-counted                       | the count of marked places
 fold 20     | fold-bits-of-the-first-places              | the list's answer is not
 fold 20     | fold-byte-of-eight-bits                    | the list's answer is not
 fold 20     | fold-count-cut-to-a-byte                   | the count of marked places
@@ -379,7 +487,34 @@ fprem 2000  | scale80-no-place-rounds                    | ^around a half
 fprem 2000  | scale80-nothing-loses-its-sign             | ^around a half
 fprem 2000  | scale80-pseudo-denormal-is-denormal        | ^around a half, [08]000[89A-F]
 fprem 2000  | scale80-pseudo-denormal-kept-by-0          | ^around a half, [08]000[89A-F].* by 0:
+fprem 2000  | denormal80-zero-counts                     | ^class of 
+fprem 2000  | denormal80-field-1-counts                  | ^class of 
+fprem 2000  | denormal80-negative-left-out               | ^class of 
+fprem 2000  | denormal80-pseudo-denormal-left-out        | ^class of [08]000[89A-F]
+fprem 2000  | denormal80-unnormal-counts                 | ^class of 
+fprem 2000  | denormal80-pseudo-nan-counts               | ^class of [7F]FFF
+fprem 2000  | denormal80-zero-counts                     | ^denormal operand of a step
+fprem 2000  | denormal80-pseudo-denormal-left-out        | ^denormal operand of a step
+fprem 2000  | denormal80-negative-left-out               | ^denormal operand of a step
+fprem 2000  | denormal80-field-1-counts                  | ^denormal operand of a scaling
+fprem 2000  | denormal80-pseudo-denormal-left-out        | ^denormal operand of a scaling
+fprem 2000  | nan80-smaller-significand                  | ^FPREM of
+fprem 2000  | nan80-quiet-before-comparing               | ^FPREM of
+fprem 2000  | nan80-dividend-of-two                      | ^FPREM of
+fprem 2000  | nan80-divisor-of-equal-significands        | ^FPREM of
+fprem 2000  | nan80-positive-of-equal-significands       | ^FPREM of
+fprem 2000  | nan80-loses-its-sign                       | ^FPREM of
+fprem 2000  | nan80-not-quiet                            | ^FPREM of
+fprem 2000  | nan80-house-nan                            | ^FPREM of
+fprem 2000  | nan80-only-the-significand-written         | ^FPREM of
+fprem 2000  | nan80-smaller-significand                  | ^FPREM1 of
+fprem 2000  | nan80-smaller-significand                  | ^FSCALE of
+fprem 2000  | nan80-positive-of-equal-significands       | ^FPREM1 of
+fprem 2000  | nan80-positive-of-equal-significands       | ^FSCALE of
+fprem 2000  | nan80-loses-its-sign                       | ^FXTRACT of
+fprem 2000  | nan80-not-quiet                            | ^FXTRACT of
 fprem 20    | none                                       | gaps: .* has no pair
+fprem 3     | none                                       | ^denormals: .* has no pair
 fprem 3     | none                                       | pseudo-denormals: .* has no pair
 fprem 3     | none                                       | ^scaling: no pseudo-denormal
 fprem 3     | none                                       | ^splitting: no pseudo-denormal
@@ -471,6 +606,34 @@ libm 2000 1 31 | none                                       | ^binary64 .* kind
 libm 2000 1 31 | none                                       | ^binary32 .* kind
 libm 20     | none                                       | gaps: .* has no pair
 libm 20     | none                                       | pseudo-denormals: .* has no pair
+libm 1      | none                                       | NaNs of fmod, .* has no pair
+libm 2000   | nan64-smaller-significand                  | ^fmod of binary64 NaNs
+libm 2000   | nan64-divisor-of-equal-significands        | ^fmod of binary64 NaNs
+libm 2000   | nan64-quiet-before-comparing               | ^fmod of binary64 NaNs
+libm 2000   | nan64-signs-compared                       | ^fmod of binary64 NaNs
+libm 2000   | nan64-loses-its-sign                       | ^fmod of binary64 NaNs
+libm 2000   | nan64-not-quiet                            | ^fmod of binary64 NaNs
+libm 2000   | nan64-house-nan                            | ^fmod of binary64 NaNs
+libm 2000   | nan64-not-quiet                            | ^remainder of binary64 NaNs
+libm 2000   | nan64-not-quiet                            | ^remquo of binary64 NaNs
+libm 2000   | nan32-smaller-significand                  | ^fmod of binary32 NaNs
+libm 2000   | nan32-divisor-of-equal-significands        | ^fmod of binary32 NaNs
+libm 2000   | nan32-quiet-before-comparing               | ^fmod of binary32 NaNs
+libm 2000   | nan32-signs-compared                       | ^fmod of binary32 NaNs
+libm 2000   | nan32-loses-its-sign                       | ^fmod of binary32 NaNs
+libm 2000   | nan32-not-quiet                            | ^fmod of binary32 NaNs
+libm 2000   | nan32-house-nan                            | ^fmod of binary32 NaNs
+libm 2000   | nan32-not-quiet                            | ^remainder of binary32 NaNs
+libm 2000   | nan32-not-quiet                            | ^remquo of binary32 NaNs
+libm 2000   | nan80-smaller-significand                  | ^fmod of x87 NaNs
+libm 2000   | nan80-divisor-of-equal-significands        | ^fmod of x87 NaNs
+libm 2000   | nan80-quiet-before-comparing               | ^fmod of x87 NaNs
+libm 2000   | nan80-signs-compared                       | ^fmod of x87 NaNs
+libm 2000   | nan80-loses-its-sign                       | ^fmod of x87 NaNs
+libm 2000   | nan80-not-quiet                            | ^fmod of x87 NaNs
+libm 2000   | nan80-house-nan                            | ^fmod of x87 NaNs
+libm 2000   | nan80-not-quiet                            | ^remainder of x87 NaNs
+libm 2000   | nan80-not-quiet                            | ^remquo of x87 NaNs
 disputed 99 | none                                       | its remainder and remquo differ
 ldexp 2000  | scale16-nothing-loses-its-sign             | ^binary16 .* scaled
 ldexp 2000  | scale16-nothing-left-is-exact              | ^binary16 .* scaled
@@ -508,7 +671,38 @@ ldexp 2000  | scale80-no-place-rounds                    | ^x87 .* around a half
 ldexp 2000  | scale80-pseudo-denormal-is-denormal        | ^x87 [08]000[89A-F].* around a half
 ldexp 2000  | scale80-pseudo-denormal-kept-by-0          | ^x87 [08]000[89A-F].* around a half by 0:
 ldexp 2000 1 20 | none                                   | ^binary64 has no half at 30 places
+ldexp 2000  | nan32-loses-its-sign                       | ^binary32 NaN .* by ldexp
+ldexp 2000  | nan32-not-quiet                            | ^binary32 NaN .* by ldexp
+ldexp 2000  | nan32-house-nan                            | ^binary32 NaN .* by ldexp
+ldexp 2000  | nan32-loses-its-sign                       | ^binary32 NaN .* by frexp
+ldexp 2000  | nan32-not-quiet                            | ^binary32 NaN .* by frexp
+ldexp 2000  | nan32-house-nan                            | ^binary32 NaN .* by frexp
+ldexp 2000  | nan64-loses-its-sign                       | ^binary64 NaN .* by ldexp
+ldexp 2000  | nan64-not-quiet                            | ^binary64 NaN .* by ldexp
+ldexp 2000  | nan64-house-nan                            | ^binary64 NaN .* by ldexp
+ldexp 2000  | nan64-loses-its-sign                       | ^binary64 NaN .* by frexp
+ldexp 2000  | nan64-not-quiet                            | ^binary64 NaN .* by frexp
+ldexp 2000  | nan64-house-nan                            | ^binary64 NaN .* by frexp
+ldexp 2000  | nan80-loses-its-sign                       | ^x87 NaN .* by ldexp
+ldexp 2000  | nan80-not-quiet                            | ^x87 NaN .* by ldexp
+ldexp 2000  | nan80-house-nan                            | ^x87 NaN .* by ldexp
+ldexp 2000  | nan80-loses-its-sign                       | ^x87 NaN .* by frexp
+ldexp 2000  | nan80-not-quiet                            | ^x87 NaN .* by frexp
+ldexp 2000  | nan80-house-nan                            | ^x87 NaN .* by frexp
+ldexp 2000  | denormal16-zero-counts                     | ^binary16 .* denormal: 
+ldexp 2000  | denormal16-field-1-counts                  | ^binary16 .* denormal: 
+ldexp 2000  | denormal16-negative-left-out               | ^binary16 .* denormal: 
+ldexp 2000  | denormal32-zero-counts                     | ^binary32 .* denormal: 
+ldexp 2000  | denormal32-field-1-counts                  | ^binary32 .* denormal: 
+ldexp 2000  | denormal32-negative-left-out               | ^binary32 .* denormal: 
+ldexp 2000  | denormal64-zero-counts                     | ^binary64 .* denormal: 
+ldexp 2000  | denormal64-field-1-counts                  | ^binary64 .* denormal: 
+ldexp 2000  | denormal64-negative-left-out               | ^binary64 .* denormal: 
+ldexp 2000  | denormal80-zero-counts                     | ^x87 .* denormal: 
+ldexp 2000  | denormal80-field-1-counts                  | ^x87 .* denormal: 
+ldexp 2000  | denormal80-negative-left-out               | ^x87 .* denormal: 
 ldexp 5     | none                                       | ^x87: no pseudo-denormal
+ldexp 5     | none                                       | operands: .* has no pair
 stems 2000  | stem-open-most-is-3999                     | ^a good file: the number
 stems 2000  | stem-open-start-one-point-too-far          | ^a good file: what is written
 stems 2000  | stem-open-start-one-point-too-far          | ^a good file: other points
@@ -693,6 +887,18 @@ modes 2000  | split32-zero-as-the-processor-compares     | ^split: another answe
 modes 2000  | split16-leaves-another-rounding-mode       | ^split: another environment is left
 modes 3000  | split80-pseudo-denormal-in-the-x87-unit    | ^split: a trap
 modes 3000  | split80-pseudo-denormal-in-the-x87-unit    | ^split: a flag is raised
+modes 2000  | denormal64-as-the-processor-compares       | ^denormal: another answer
+modes 2000  | denormal64-as-the-processor-compares       | ^denormal: a trap
+modes 2000  | denormal64-as-the-processor-compares       | ^denormal: a flag is raised
+modes 2000  | denormal80-leaves-another-precision        | ^denormal: another environment is left
+modes 2000  | nan32-quiet-as-the-rounding-mode-says      | ^NaN: another answer
+modes 2000  | nan64-made-quiet-by-the-processor          | ^NaN: a trap
+modes 2000  | nan64-made-quiet-by-the-processor          | ^NaN: a flag is raised
+modes 2000  | nan80-made-quiet-in-the-x87-unit           | ^NaN: a trap
+modes 2000  | nan80-made-quiet-in-the-x87-unit           | ^NaN: a flag is raised
+modes 2000  | nan16-leaves-another-rounding-mode         | ^NaN: another environment is left
+modes 2000  | fold-nan-made-quiet-by-the-processor       | ^list: a trap
+modes 2000  | fold-nan-made-quiet-by-the-processor       | ^list: a flag is raised
 modes 2000  | fold-flushes-as-the-processor-does         | ^list: another answer
 modes 2000  | fold-flushes-as-the-processor-does         | ^list: a trap
 modes 2000  | stem-open-period-compared-by-the-processor | ^stem file: another answer
@@ -712,6 +918,12 @@ host        | rem64-fraction-is-infinite                 | ^C++ host: FAILED
 host        | rem64-quotient-of-three-bits               | ^C++ host: FAILED
 host        | remquo64-quotient-is-cut                   | ^C++ host: FAILED
 host        | remquo64-sign-of-y                         | ^C++ host: FAILED
+host        | nan64-house-nan                            | ^C++ host: FAILED
+host        | nan64-not-quiet                            | ^C++ host: FAILED
+host        | nan80-not-quiet                            | ^C++ host: FAILED
+host        | nan80-only-the-significand-written         | ^C++ host: FAILED
+host        | denormal64-zero-counts                     | ^C++ host: FAILED
+host        | denormal64-low-half-not-looked-at          | ^C++ host: FAILED
 ROWS
 
 for program do

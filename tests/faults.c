@@ -30,6 +30,14 @@ REAL(zk_split16, uint16_t x, uint16_t *significand, int32_t *exponent);
 REAL(zk_split32, uint32_t x, uint32_t *significand, int32_t *exponent);
 REAL(zk_split64, uint64_t x, uint64_t *significand, int32_t *exponent);
 REAL(zk_split80, uint64_t x, uint16_t xw, uint64_t *significand, uint16_t *significandw, int32_t *exponent);
+REAL(zk_denormal16, uint16_t x);
+REAL(zk_denormal32, uint32_t x);
+REAL(zk_denormal64, uint64_t x);
+REAL(zk_denormal80, uint64_t x, uint16_t xw);
+uint16_t real_zk_nan16(uint16_t x, uint16_t y);
+uint32_t real_zk_nan32(uint32_t x, uint32_t y);
+uint64_t real_zk_nan64(uint64_t x, uint64_t y);
+void real_zk_nan80(uint64_t x, uint16_t xw, uint64_t y, uint16_t yw, uint64_t *value, uint16_t *valuew);
 REAL(zk_fold64, const uint64_t *x, size_t nx, uint64_t *results, size_t nr, uint8_t *quotients, size_t nq, uint64_t y, uint32_t kind,
      size_t *marked);
 REAL(zk_stem_open, const uint8_t *file, size_t length, uint32_t *kind, uint64_t *period, uint64_t *origin, size_t *start, size_t *count);
@@ -60,6 +68,10 @@ static uint16_t x87_control(void) {
 }
 
 static const uint64_t sign64 = UINT64_C(0x8000000000000000), infinity64 = UINT64_C(0x7FF0000000000000);
+
+static int is_nan(uint64_t pattern) {
+    return (pattern & ~sign64) > infinity64;
+}
 
 /* A double as the processor gives it back: flushed where the host says so, and a NaN made quiet. */
 static uint64_t by_the_processor(uint64_t pattern) {
@@ -725,10 +737,231 @@ uint8_t zk_split80(uint64_t x, uint16_t xw, uint64_t *significand, uint16_t *sig
     return number;
 }
 
+/* ---- which operand was bad */
+
+/* What is told of a pattern by a fault that counts zeros or normal numbers with the exponent field 1, or leaves out negative patterns. */
+static uint8_t counted(uint8_t told, int is_zero, int has_field_1, int is_negative, int zeros, int normals, int no_negatives) {
+    if ((zeros && is_zero) || (normals && has_field_1))
+        return 1;
+    return no_negatives && is_negative ? 0 : told;
+}
+
+uint8_t zk_denormal16(uint16_t x) {
+    return counted(real_zk_denormal16(x), (x & 0x7FFF) == 0, (x & 0x7C00) == 0x0400, x >> 15, fault("denormal16-zero-counts"),
+                   fault("denormal16-field-1-counts"), fault("denormal16-negative-left-out"));
+}
+
+uint8_t zk_denormal32(uint32_t x) {
+    uint8_t told = counted(real_zk_denormal32(x), (x & 0x7FFFFFFF) == 0, (x & 0x7F800000) == 0x00800000, x >> 31,
+                           fault("denormal32-zero-counts"), fault("denormal32-field-1-counts"), fault("denormal32-negative-left-out"));
+    if (fault("denormal32-told-by-its-last-byte") && told)
+        return (uint8_t)x;
+    return told;
+}
+
+/* By comparisons of the processor: no pattern is a denormal's, where denormals are zeros. */
+static uint8_t compared_with_normals(uint64_t x) {
+    volatile double value = zk_double_of_pattern(x & ~sign64), least = zk_double_of_pattern(UINT64_C(0x0010000000000000));
+    return value > 0 && value < least;
+}
+
+uint8_t zk_denormal64(uint64_t x) {
+    if (fault("denormal64-as-the-processor-compares"))
+        return compared_with_normals(x);
+    if (fault("denormal64-low-half-not-looked-at"))
+        x &= ~UINT64_C(0xFFFFFFFF);
+    return counted(real_zk_denormal64(x), (x & ~sign64) == 0, (x & infinity64) == UINT64_C(0x0010000000000000), x >> 63 != 0,
+                   fault("denormal64-zero-counts"), fault("denormal64-field-1-counts"), fault("denormal64-negative-left-out"));
+}
+
+uint8_t zk_denormal80(uint64_t x, uint16_t xw) {
+    int e = xw & 32767, j = x >= sign64;
+    if (fault("denormal80-leaves-another-precision")) {
+        uint16_t control = x87_control() & ~0x0300;
+        __asm__ volatile("fldcw %0" : : "m"(control));
+    }
+    if (fault("denormal80-pseudo-denormal-left-out") && is_pseudo_denormal(x, xw))
+        return 0;
+    if ((fault("denormal80-unnormal-counts") && e > 0 && e < 32767 && !j) || (fault("denormal80-pseudo-nan-counts") && e == 32767 && !j))
+        return 1;
+    return counted(real_zk_denormal80(x, xw), e == 0 && x == 0, e == 1 && j, xw >> 15, fault("denormal80-zero-counts"),
+                   fault("denormal80-field-1-counts"), fault("denormal80-negative-left-out"));
+}
+
+/* The rule for NaNs with one thing wrong. Quiet is the top bit of the fraction, which has neither the sign nor J in it. */
+enum wrong {
+    SMALLER,           /* the one with the smaller significand */
+    DIVISOR_OF_EQUALS, /* the divisor, of two with one significand */
+    DIVIDEND_OF_TWO,   /* the dividend, of any two */
+    QUIET_FIRST,       /* significands are compared once they are quiet, */
+    SIGNED,            /* or with their signs */
+    UNSIGNED,          /* the sign is lost */
+    SIGNALLING,        /* it is not made quiet */
+    HOUSE,             /* the house NaN, whatever there is */
+    NEGATIVE_HOUSE,    /* where there is none the processor's own, which is negative */
+    INFINITE,          /* an infinity is one */
+    WRONG              /* so many, or nothing */
+};
+
+/* Which of them is asked for. */
+static enum wrong first_of(const int asked[WRONG]) {
+    int i = 0;
+    while (i < WRONG && !asked[i])
+        i++;
+    return (enum wrong)i;
+}
+
+struct nan {
+    int negative, is_nan, is_infinite;
+    uint64_t fraction;
+};
+
+static int takes_divisor(struct nan x, struct nan y, uint64_t quiet, enum wrong is) {
+    uint64_t of_x = x.fraction, of_y = y.fraction;
+    if (!x.is_nan || !y.is_nan)
+        return y.is_nan;
+    if (is == QUIET_FIRST)
+        of_x |= quiet, of_y |= quiet;
+    if (is == SIGNED)
+        of_x += 2 * quiet * (uint64_t)x.negative, of_y += 2 * quiet * (uint64_t)y.negative;
+    if (is == DIVIDEND_OF_TWO)
+        return 0;
+    return is == SMALLER ? of_y < of_x : is == DIVISOR_OF_EQUALS ? of_y >= of_x : of_y > of_x;
+}
+
+static struct nan chosen(struct nan x, struct nan y, uint64_t quiet, enum wrong is) {
+    struct nan nan = {is == NEGATIVE_HOUSE, 1, 0, quiet};
+    if (is == INFINITE)
+        x.is_nan |= x.is_infinite, y.is_nan |= y.is_infinite;
+    if (is == HOUSE || (!x.is_nan && !y.is_nan))
+        return nan;
+    nan = takes_divisor(x, y, quiet, is) ? y : x;
+    nan.fraction |= is == SIGNALLING ? 0 : quiet;
+    nan.negative &= is != UNSIGNED;
+    return nan;
+}
+
+/* For patterns of one word: the fraction ends with the bit quiet, the exponent field is infinity, and the sign is the bit above. */
+static struct nan nan_of(uint64_t x, uint64_t infinity, uint64_t quiet) {
+    uint64_t fraction = x & (2 * quiet - 1);
+    int is_special = (x & infinity) == infinity;
+    struct nan nan = {(x & (infinity + 2 * quiet)) != 0, is_special && fraction != 0, is_special && fraction == 0, fraction};
+    return nan;
+}
+
+static uint64_t chosen_pattern(uint64_t x, uint64_t y, uint64_t infinity, uint64_t quiet, enum wrong is) {
+    struct nan nan = chosen(nan_of(x, infinity, quiet), nan_of(y, infinity, quiet), quiet, is);
+    return (nan.negative ? infinity + 2 * quiet : 0) | infinity | nan.fraction;
+}
+
+uint16_t zk_nan16(uint16_t x, uint16_t y) {
+    const int asked[WRONG] = {
+        fault("nan16-smaller-significand"), fault("nan16-divisor-of-equal-significands"), fault("nan16-dividend-of-two"),
+        fault("nan16-quiet-before-comparing"), fault("nan16-signs-compared"), fault("nan16-loses-its-sign"), fault("nan16-not-quiet"),
+        fault("nan16-house-nan"), fault("nan16-house-nan-is-negative"), fault("nan16-infinity-counts")};
+    enum wrong is = first_of(asked);
+    if (fault("nan16-leaves-another-rounding-mode"))
+        _mm_setcsr(_mm_getcsr() | 0x2000);
+    return is == WRONG ? real_zk_nan16(x, y) : (uint16_t)chosen_pattern(x, y, 0x7C00, 0x0200, is);
+}
+
+uint32_t zk_nan32(uint32_t x, uint32_t y) {
+    const int asked[WRONG] = {
+        fault("nan32-smaller-significand"), fault("nan32-divisor-of-equal-significands"), fault("nan32-dividend-of-two"),
+        fault("nan32-quiet-before-comparing"), fault("nan32-signs-compared"), fault("nan32-loses-its-sign"), fault("nan32-not-quiet"),
+        fault("nan32-house-nan"), fault("nan32-house-nan-is-negative"), fault("nan32-infinity-counts")};
+    enum wrong is = first_of(asked);
+    if (fault("nan32-quiet-as-the-rounding-mode-says") && rounding() != 0)
+        is = SIGNALLING;
+    return is == WRONG ? real_zk_nan32(x, y) : (uint32_t)chosen_pattern(x, y, 0x7F800000, 0x00400000, is);
+}
+
+uint64_t zk_nan64(uint64_t x, uint64_t y) {
+    const int asked[WRONG] = {
+        fault("nan64-smaller-significand"), fault("nan64-divisor-of-equal-significands"), fault("nan64-dividend-of-two"),
+        fault("nan64-quiet-before-comparing"), fault("nan64-signs-compared"), fault("nan64-loses-its-sign"), fault("nan64-not-quiet"),
+        fault("nan64-house-nan"), fault("nan64-house-nan-is-negative"), fault("nan64-infinity-counts")};
+    const uint64_t quiet = UINT64_C(1) << 51, nan = real_zk_nan64(x, y);
+    enum wrong is = first_of(asked);
+    if (fault("nan64-made-quiet-by-the-processor") && (is_nan(x) || is_nan(y)))
+        return by_the_processor(is_nan(x) && nan == (x | quiet) ? x : y);
+    if (fault("nan64-compared-in-32-bits") && is_nan(x) && is_nan(y) && (x ^ y) << 1 >> 33 == 0)
+        return x | quiet; /* unequal in the lower half alone */
+    return is == WRONG ? nan : chosen_pattern(x, y, infinity64, quiet, is);
+}
+
+static struct nan nan_of80(uint64_t x, uint16_t xw, int also_pseudo) {
+    int is_special = (xw & 32767) == 32767 && (x >= sign64 || also_pseudo);
+    struct nan nan = {xw >> 15, is_special && x << 1 != 0, is_special && x << 1 == 0, x & ~sign64};
+    return nan;
+}
+
+/* e from 1 with J = 0. */
+static int is_unsupported(uint64_t x, uint16_t xw) {
+    return (xw & 32767) != 0 && x < sign64;
+}
+
+void zk_nan80(uint64_t x, uint16_t xw, uint64_t y, uint16_t yw, uint64_t *value, uint16_t *valuew) {
+    const int asked[WRONG] = {
+        fault("nan80-smaller-significand"), fault("nan80-divisor-of-equal-significands"), fault("nan80-dividend-of-two"),
+        fault("nan80-quiet-before-comparing"), fault("nan80-signs-compared"), fault("nan80-loses-its-sign"), fault("nan80-not-quiet"),
+        fault("nan80-house-nan"), fault("nan80-house-nan-is-negative"), fault("nan80-infinity-counts")};
+    const uint64_t quiet = UINT64_C(1) << 62, lent = *value;
+    const uint16_t lentw = *valuew;
+    const struct nan of_x = nan_of80(x, xw, 0), of_y = nan_of80(y, yw, 0);
+    const int both = of_x.is_nan && of_y.is_nan, none = !of_x.is_nan && !of_y.is_nan, pseudo = fault("nan80-pseudo-nan-counts");
+    const int nothing_written = fault("nan80-nothing-written-of-none") && none;
+    enum wrong is = first_of(asked);
+    real_zk_nan80(x, xw, y, yw, value, valuew);
+    if (is != WRONG || pseudo) {
+        struct nan nan = chosen(nan_of80(x, xw, pseudo), nan_of80(y, yw, pseudo), quiet, is);
+        *value = sign64 | nan.fraction;
+        *valuew = (uint16_t)(nan.negative << 15 | 32767);
+    }
+    if (fault("nan80-lost-beside-unsupported") && (is_unsupported(x, xw) || is_unsupported(y, yw)))
+        *value = sign64 | quiet, *valuew = 32767;
+    if (fault("nan80-compared-in-32-bits") && both && x >> 32 == y >> 32)
+        *value = x | quiet, *valuew = xw; /* unequal in the lower half alone */
+    if (fault("nan80-positive-of-equal-significands") && both && x == y)
+        *valuew = xw & yw; /* as the processor chooses */
+    if (fault("nan80-made-quiet-in-the-x87-unit")) {
+        volatile long double product = zk_long_double_of_pattern(*value & ~quiet, *valuew), one = 1;
+        product *= one; /* a signalling one is an invalid operand */
+    }
+    if (fault("nan80-only-the-significand-written") || nothing_written)
+        *valuew = lentw;
+    if (fault("nan80-only-the-word-written") || nothing_written)
+        *value = lent;
+    if (fault("nan80-writes-behind-the-word"))
+        valuew[1] = 0;
+}
+
+/* A list's NaNs and infinities, as a fault shows them. */
+static uint64_t shown(uint64_t x, uint64_t result, uint64_t first) {
+    const uint64_t quiet = UINT64_C(1) << 51;
+    if (is_nan(x) && fault("fold-house-nan-for-a-nan"))
+        return ZK_HOUSE_NAN64;
+    if (is_nan(x) && fault("fold-nan-not-quiet"))
+        return x;
+    if (is_nan(x) && fault("fold-nan-loses-its-sign"))
+        return result & ~sign64;
+    if (is_nan(x) && fault("fold-nan-loses-its-lower-half"))
+        return result & ~UINT64_C(0xFFFFFFFF);
+    if (is_nan(x) && fault("fold-nan-of-the-first-place"))
+        return first | quiet;
+    if (is_nan(x) && fault("fold-nan-made-quiet-by-the-processor"))
+        return by_the_processor(x);
+    if ((x & ~sign64) == infinity64 && fault("fold-infinity-kept"))
+        return x;
+    if ((x & ~sign64) == infinity64 && fault("fold-infinity-has-its-sign"))
+        return x | quiet;
+    return result;
+}
+
 uint8_t zk_fold64(const uint64_t *x, size_t nx, uint64_t *results, size_t nr, uint8_t *quotients, size_t nq, uint64_t y,
                          uint32_t kind, size_t *marked) {
     uint8_t number;
-    uint64_t whole;
+    uint64_t whole, first = 0;
     uint32_t quotient;
     size_t i;
     if (fault("fold-lengths-compared-in-a-byte") && (nx & 255) == (nr & 255) && (nx & 255) == (nq & 255))
@@ -744,7 +977,20 @@ uint8_t zk_fold64(const uint64_t *x, size_t nx, uint64_t *results, size_t nr, ui
     if (fault("fold-only-1-is-nearest"))
         kind = kind == 1;
     number = real_zk_fold64(x, nx, results, nr, quotients, nq, y, kind, marked);
+    if (fault("fold-nan-divisor-at-each-place") && number == ZK_NAN) {
+        for (i = 0; i < nx; i++)
+            results[i] = y | UINT64_C(1) << 51, quotients[i] = ZK_MARK;
+        *marked = nx;
+        return ZK_FINISHED;
+    }
     for (i = 0; number == ZK_FINISHED && i < nx; i++) {
+        first = first || !is_nan(x[i]) ? first : x[i];
+        if (quotients[i] == ZK_MARK)
+            results[i] = shown(x[i], results[i], first);
+        if (fault("fold-nan-not-marked") && is_nan(x[i]))
+            quotients[i] = 0;
+        if (fault("fold-nan-not-counted") && is_nan(x[i]))
+            *marked -= 1;
         if (fault("fold-bits-of-the-first-places") && i > 30)
             quotients[i] = 0; /* bits of the first places alone */
         if (fault("fold-byte-of-eight-bits") && quotients[i] != ZK_MARK && real_zk_rem64(x[i], y, kind, &whole, &quotient) == ZK_FINISHED)
@@ -778,10 +1024,6 @@ uint8_t zk_fold64(const uint64_t *x, size_t nx, uint64_t *results, size_t nr, ui
 /* ---- stem files */
 
 enum { PERIOD = 10, ORIGIN = 18, COPIED = 26 + 16 * 4200 };
-
-static int is_nan(uint64_t pattern) {
-    return (pattern & ~sign64) > infinity64;
-}
 
 /* A period that is none, taken for one by the fault of its class. */
 static int period_let_through(uint64_t period, int zero, int minus_zero, int negative, int infinite, int quiet_nan, int signalling_nan) {

@@ -8,7 +8,7 @@ folder=${1:?usage: faults.sh FOLDER CARGO}
 cargo=${2:?usage: faults.sh FOLDER CARGO}
 shift 2
 [ $# -gt 0 ] || set -- $(grep -o 'fault("[^"]*")' tests/faults.c | cut -d '"' -f 2)
-programs='untouched stems stem_writer modes chains fold ldexp libm half fprem'
+programs='untouched nans stems stem_writer modes chains fold ldexp libm half fprem'
 comparisons='--test folds --test half --test halves --test lists --test published --test readings --test runs --test sequence --test stems --test vectors'
 # but for remainders and the writer, what a refusal writes into a single lent number stays inside the safe Rust functions, which have no
 # kind but 0 and 1 and no turn with an origin; lists, blocks, files and rooms of 2^32 places, what lies outside of a file, a list or a
@@ -25,7 +25,9 @@ c_only='scale16-refusal-writes scale80-refusal-writes split64-refusal-writes fol
     remquo64-sign-as-the-processor-compares remquo32-leaves-another-rounding-mode
     step-c0-lost-in-another-precision run-quotient-as-the-control-word-rounds scale80-rounded-as-the-control-word-says
     split32-zero-as-the-processor-compares split16-leaves-another-rounding-mode split80-pseudo-denormal-in-the-x87-unit
-    fold-flushes-as-the-processor-does
+    fold-flushes-as-the-processor-does fold-nan-made-quiet-by-the-processor
+    denormal64-as-the-processor-compares denormal80-leaves-another-precision nan16-leaves-another-rounding-mode
+    nan32-quiet-as-the-rounding-mode-says nan64-made-quiet-by-the-processor nan80-made-quiet-in-the-x87-unit
     stem-open-period-compared-by-the-processor stem-fold-rounds-as-the-processor-does stem-fold-flushes-as-the-processor-does
     stem-fold-traps-as-the-processor-does
     stem-write-lists-compared-in-32-bits stem-write-count-cut-to-32-bits stem-write-product-of-32-bits stem-write-product-of-64-bits

@@ -1,6 +1,7 @@
 /*
  * Lists of up to 4,096 places against the remainder of each place in one call, with its quotient modulo 8. Most of the places are up to 64
- * halves of the divisor, so that ties and quotients above 8 come up, and one in sixteen is marked.
+ * halves of the divisor, so that ties and quotients above 8 come up, and one in sixteen is marked: it has the NaN that it was, made quiet,
+ * or the house NaN for an infinity.
  *
  *   fold [LISTS [SEED]]
  */
@@ -22,13 +23,19 @@ static void differ(size_t place, const char *what) {
         printf("place %lu: %s\n", (unsigned long)place, what);
 }
 
+static uint64_t nans;
+
 /* One place of a folded list; 1 if it is marked. */
 static int compare_place(size_t i, uint64_t x, uint64_t y, uint32_t kind, uint64_t result, uint8_t byte) {
     struct pattern px = {x, 0}, py = {y, 0};
     struct reply r = call_rem(BINARY64, px, py, kind);
-    int marked = !zk_is_answer(r.number);
-    if (result != (marked ? ZK_HOUSE_NAN64 : r.value.bits) || byte != (marked ? ZK_MARK : r.quotient % 8))
+    int marked = !zk_is_answer(r.number), is_nan = r.number == ZK_NAN;
+    uint64_t mark = is_nan ? x | UINT64_C(1) << 51 : ZK_HOUSE_NAN64;
+    nans += (uint64_t)is_nan;
+    if (!marked && (result != r.value.bits || byte != r.quotient % 8))
         differ(i, "the list's answer is not the one-call remainder");
+    if (marked && (result != mark || byte != ZK_MARK))
+        differ(i, is_nan ? "a NaN's place has another one" : "an infinity's place has another mark");
     return marked;
 }
 
@@ -56,6 +63,6 @@ int main(int argc, char **argv) {
     uint64_t lists = pairs_asked(argc, argv, 500), state = seed_asked(argc, argv), marked = 0, i;
     for (i = 0; going(i, lists); i++)
         marked += compare_list(&state);
-    printf("%" PRIu64 " lists, %" PRIu64 " places marked\n", lists, marked);
+    printf("%" PRIu64 " lists, %" PRIu64 " places marked, %" PRIu64 " of them NaNs\n", lists, marked, nans);
     return verdict();
 }

@@ -2,6 +2,9 @@
  * Steps and runs against the processor's own FPREM and FPREM1, scaling against FSCALE, splitting against FXTRACT. x86-64 only.
  * All four take pseudo-denormals, and give the ordinary pattern also where the value of their operand comes back. Three flags of a finished
  * step are its quotient modulo 8; the processor shows no more of it.
+ * Denormals are those of FXAM, and an instruction that gives a number sets its denormal-operand flag where an operand is one. NaNs are what
+ * the instructions give for them, all exceptions masked, as they are when a program begins. A pair with an unsupported operand is none of
+ * these: it is refused with 2, and the processor gives a NaN of its own.
  *
  *   fprem [PAIRS [SEED [PLACES]]]    so many of each, then scalings around halves, by up to PLACES places (130)
  */
@@ -37,11 +40,11 @@ static struct pattern of_ten(struct ten t) {
 
 struct flags {
     int c0, c1, c2, c3;
-    int inexact;
+    int inexact, denormal;
 };
 
 static struct flags flags_of(uint16_t status) {
-    struct flags f = {status >> 8 & 1, status >> 9 & 1, status >> 10 & 1, status >> 14 & 1, status >> 5 & 1};
+    struct flags f = {status >> 8 & 1, status >> 9 & 1, status >> 10 & 1, status >> 14 & 1, status >> 5 & 1, status >> 1 & 1};
     return f;
 }
 
@@ -73,10 +76,27 @@ static struct pattern processor_scale(struct pattern x, int32_t power, struct fl
     return of_ten(r);
 }
 
+/* By another x87 operand, whose whole part is the power. */
+static struct pattern processor_scale_by(struct pattern x, struct pattern y) {
+    struct ten a = ten_of(x), b = ten_of(y), r;
+    __asm__ volatile("fldt %2\n\tfldt %1\n\tfscale\n\tfstpt %0\n\tfstp %%st(0)" : "=m"(r) : "m"(a), "m"(b) : "st", "st(1)");
+    return of_ten(r);
+}
+
 static struct pattern processor_split(struct pattern x, int32_t *exponent) {
     struct ten a = ten_of(x), r;
     __asm__ volatile("fldt %2\n\tfxtract\n\tfstpt %0\n\tfistpl %1" : "=m"(r), "=m"(*exponent) : "m"(a) : "st", "st(1)");
     return of_ten(r);
+}
+
+/* FXAM's class: C3 and C2 without C0 are a denormal's. */
+static int processor_denormal(struct pattern x) {
+    struct ten a = ten_of(x);
+    struct flags c;
+    uint16_t status;
+    __asm__ volatile("fldt %1\n\tfxam\n\tfnstsw %0\n\tfstp %%st(0)" : "=a"(status) : "m"(a) : "st");
+    c = flags_of(status);
+    return c.c3 && c.c2 && !c.c0;
 }
 
 static int is_nan(struct pattern x) {
@@ -93,6 +113,43 @@ static void print_step(const char *what, struct pattern x, struct pattern y, uin
     printf("  zukemoriha %s quotient %lu octant %u number %u steps %lu%s\n", text(X87, ours.value), (unsigned long)ours.quotient,
            ours.octant, ours.number, (unsigned long)ours.steps, ours.touched ? ", wrongly written" : "");
     printf("  processor  %s C0 %d C3 %d C1 %d C2 %d\n", text(X87, theirs), c.c0, c.c3, c.c1, c.c2);
+}
+
+static struct {
+    uint64_t classed, denormal, pseudo, unsupported, flagged, unflagged;
+} operands;
+
+static void compare_class(struct pattern x) {
+    int theirs = processor_denormal(x);
+    unsigned ours = call_denormal(X87, x);
+    operands.classed++;
+    operands.denormal += (uint64_t)theirs;
+    operands.pseudo += theirs && is_pseudo_denormal(x);
+    operands.unsupported += (uint64_t)is_unsupported(x);
+    if (ours != (unsigned)theirs && differs())
+        printf("class of %s: denormal %u, by the processor %d\n", text(X87, x), ours, theirs);
+}
+
+/* The flag of an instruction that gave a number. */
+static void compare_flag(const char *what, struct pattern x, struct pattern y, struct flags c) {
+    unsigned ours = call_denormal(X87, x) | call_denormal(X87, y);
+    if (c.denormal)
+        operands.flagged++;
+    else
+        operands.unflagged++;
+    if (ours != (unsigned)c.denormal && differs())
+        printf("denormal operand of %s, %s and %s: %u, by the processor %d\n", what, text(X87, x), text(X87, y), ours, c.denormal);
+}
+
+static void print_operands(void) {
+    printf("denormals: of %" PRIu64 " operands", operands.classed);
+    print_pairs("denormal", operands.denormal);
+    print_pairs("pseudo-denormal", operands.pseudo);
+    print_pairs("unsupported", operands.unsupported);
+    printf(" by FXAM; the flag");
+    print_pairs("set", operands.flagged);
+    print_pairs("not set", operands.unflagged);
+    printf(" by FPREM, FPREM1 and FSCALE\n");
 }
 
 static int gap_of(struct pattern x, struct pattern y) {
@@ -143,6 +200,7 @@ static void compare_chain(struct pattern first, struct pattern y, uint32_t kind,
     uint32_t parts = 0;
     do {
         end = processor_step(x, y, kind, &c);
+        compare_flag("a step", x, y, c);
         if (!compare_step(x, y, kind, size, end, c, &step))
             return;
         parts = (parts + step.quotient) % ZK_QUOTIENT_MODULUS;
@@ -191,6 +249,8 @@ static void compare_pairs(uint64_t pairs, uint64_t *state) {
         struct pair p = any_pair(X87, state);
         uint32_t size = (uint32_t)between(state, 32, 63), kind = (uint32_t)below(state, 2);
         cover(&seen, X87, p);
+        compare_class(p.x);
+        compare_class(p.y);
         if (is_refused(p.x, p.y))
             compare_refusal(p.x, p.y, kind, size);
         else
@@ -234,6 +294,8 @@ static int compare_scaling(const char *what, struct pattern x, int32_t power) {
         right = ours.number == (is_unsupported(x) ? ZK_UNSUPPORTED : ZK_NAN);
     else
         right = ours.number == 0 && same(ours.value, theirs) && ours.says == says;
+    if (says != REFUSED)
+        compare_flag("a scaling", x, x, c);
     if ((!right || ours.touched) && differs())
         printf("%s %s by %ld:\n  zukemoriha %s says %d number %u\n  processor  %s says %d\n", what, text(X87, x), (long)power,
                text(X87, ours.value), ours.says, ours.number, text(X87, theirs), says);
@@ -289,12 +351,93 @@ static void compare_splitting(uint64_t cases, uint64_t *state) {
     need_pseudo_denormals("splitting", pseudo);
 }
 
+/* ---- NaNs */
+
+enum { FPREM, FPREM1, FSCALE, INSTRUCTIONS };
+enum { NAN_SAMPLES = 12, ALL_SAMPLES = NAN_SAMPLES + 10 };
+
+static const char *const instruction_names[INSTRUCTIONS] = {"FPREM", "FPREM1", "FSCALE"};
+
+static struct {
+    uint64_t one, two, equal, unlike, split;
+} nans;
+
+/*
+ * The processor chooses as the library does, but for two NaNs with one significand: it then takes a positive one, and the library the
+ * dividend. They are unlike where only the divisor is positive: these are counted, and the dividend is what is asked for.
+ */
+static void compare_nan(int instruction, struct pattern x, struct pattern y) {
+    struct flags c;
+    struct pattern theirs = instruction == FSCALE ? processor_scale_by(x, y) : processor_step(x, y, instruction == FPREM1, &c);
+    struct pattern want = theirs;
+    struct reply ours = call_nan(X87, x, y);
+    int both = is_nan(x) && is_nan(y), equal = both && x.bits == y.bits, positive = 1;
+    if (equal) {
+        want.word = x.word;
+        positive = theirs.word == (x.word & y.word);
+    }
+    nans.one += !both;
+    nans.two += (uint64_t)(both && !equal);
+    nans.equal += (uint64_t)equal;
+    nans.unlike += !same(want, theirs);
+    if ((!same(ours.value, want) || ours.touched || !is_nan(theirs) || !positive) && differs())
+        printf("%s of %s by %s:\n  zukemoriha %s%s\n  processor  %s\n", instruction_names[instruction], text(X87, x), text(X87, y),
+               text(X87, ours.value), ours.touched ? ", wrongly written" : "", text(X87, theirs));
+}
+
+static void compare_split_nan(struct pattern x) {
+    int32_t exponent;
+    struct pattern theirs = processor_split(x, &exponent);
+    struct reply ours = call_nan(X87, x, x);
+    nans.split++;
+    if ((!same(ours.value, theirs) || ours.touched) && differs())
+        printf("FXTRACT of %s:\n  zukemoriha %s\n  processor  %s\n", text(X87, x), text(X87, ours.value), text(X87, theirs));
+}
+
+static void compare_nan_pair(struct pattern x, struct pattern y) {
+    int instruction;
+    for (instruction = 0; instruction < INSTRUCTIONS; instruction++)
+        compare_nan(instruction, x, y);
+}
+
+/* Ends of signalling and of quiet NaNs with both signs, then numbers and infinities. */
+static struct pattern nan_sample(int next) {
+    const uint64_t top = UINT64_C(1) << 63, quiet = UINT64_C(1) << 62;
+    const uint64_t nan_significands[] = {top + 1, top + 2, top + quiet - 1, top + quiet, top + quiet + 1, top + quiet + quiet - 1};
+    const struct pattern others[] = {{0, 0},        {0, 0x8000},   {1, 0x8000},   {top, 0},      {top | 1, 0x8001},
+                                     {top, 0x3FFF}, {top, 0xC040}, {top, 0x7FFF}, {top, 0xFFFF}, {~UINT64_C(0), 0x7FFE}};
+    return next < NAN_SAMPLES ? signed_pattern(X87, next % 2, nan_significands[next / 2], 32767) : others[next - NAN_SAMPLES];
+}
+
+static void compare_nans(uint64_t pairs, uint64_t *state) {
+    uint64_t i;
+    int x, y;
+    next_part();
+    for (x = 0; x < ALL_SAMPLES; x++)
+        for (y = 0; y < ALL_SAMPLES; y++)
+            if (x < NAN_SAMPLES || y < NAN_SAMPLES)
+                compare_nan_pair(nan_sample(x), nan_sample(y));
+    for (i = 0; going(i, pairs); i++) {
+        struct pair p = nan_pair(X87, state);
+        if (!is_unsupported(p.x) && !is_unsupported(p.y))
+            compare_nan_pair(p.x, p.y);
+    }
+    next_part();
+    for (i = 0; going(i, pairs); i++)
+        compare_split_nan(any_nan(X87, state));
+    printf("NaNs: by FPREM, FPREM1 and FSCALE one %" PRIu64 ", two %" PRIu64 ", two with one significand %" PRIu64 ", where the processor",
+           nans.one, nans.two, nans.equal);
+    printf(" takes the divisor because it is positive in %" PRIu64 "; by FXTRACT %" PRIu64 "\n", nans.unlike, nans.split);
+}
+
 int main(int argc, char **argv) {
     uint64_t pairs = pairs_asked(argc, argv, 1000000), state = seed_asked(argc, argv);
     compare_pairs(pairs, &state);
     compare_scalings(pairs, &state);
     compare_splitting(pairs, &state);
     compare_halves(places_asked(argc, argv));
+    print_operands();
+    compare_nans(pairs / 4 + 1, &state);
     return verdict();
 }
 

@@ -2,6 +2,8 @@
  * Scaling and splitting against the C library's ldexp and frexp, for binary64, binary32 and x87 (long double). What scaling says of its
  * rounding is held to the result scaled back: a power that lowers a value loses bits, and the way back loses none. binary16, which C has no
  * type for, is scaled as a double that counts its smallest place, and rounded by rint.
+ * The NaN of a refusal is held to what both functions give for it; a NaN of binary16 has no such double and is passed over. Whether an
+ * operand is denormal is held to fpclassify, in binary16 to the count; C calls pseudo-denormals normal numbers, and they are passed over.
  *
  *   ldexp [CASES [SEED [PLACES]]]    CASES of each for each format, then scalings around halves, by up to PLACES places (130)
  */
@@ -14,10 +16,11 @@ struct theirs {
     struct pattern scaled, significand;
     int says;
     int exponent;
+    int denormal;
     uint8_t scale_number, split_number;
 };
 
-/* frexp's significand is from a half to below 1, and the library's from 1 to below 2. */
+/* frexp's significand is from a half to below 1, and the library's from 1 to below 2. A NaN is quiet once it is doubled, if not before. */
 #define ASK(NAME, TYPE, LDEXP, FREXP, OF_PATTERN, TO_PATTERN)                                                                              \
     static struct theirs NAME(struct pattern px, int power) {                                                                             \
         TYPE x = OF_PATTERN(px), scaled = LDEXP(x, power), back = LDEXP(scaled, -power), significand;                                      \
@@ -26,43 +29,17 @@ struct theirs {
         c.exponent--;                                                                                                                     \
         c.scaled = TO_PATTERN(scaled);                                                                                                    \
         c.significand = TO_PATTERN(significand);                                                                                          \
+        c.denormal = fpclassify(x) == FP_SUBNORMAL;                                                                                       \
         c.scale_number = isnan(x) ? ZK_NAN : ZK_FINISHED;                                                                                 \
         c.split_number = isnan(x) ? ZK_NAN : isinf(x) ? ZK_INFINITE : x == 0 ? ZK_ZERO_SPLIT : ZK_FINISHED;                               \
         c.says = isinf(x) ? ZK_EXACT : isinf(scaled) || (x < 0 ? back < x : back > x) ? ZK_UP : back == x ? ZK_EXACT : ZK_DOWN;         \
         return c;                                                                                                                         \
     }
 
-static float float_of(struct pattern x) {
-    return zk_float_of_pattern((uint32_t)x.bits);
-}
-
-static struct pattern of_float(float x) {
-    struct pattern p = {zk_pattern_of_float(x), 0};
-    return p;
-}
-
-static double double_of(struct pattern x) {
-    return zk_double_of_pattern(x.bits);
-}
-
-static struct pattern of_double(double x) {
-    struct pattern p = {zk_pattern_of_double(x), 0};
-    return p;
-}
-
 ASK(ask32, float, ldexpf, frexpf, float_of, of_float)
 ASK(ask64, double, ldexp, frexp, double_of, of_double)
 
 #ifdef ZK_LONG_DOUBLE_IS_X87
-static long double long_double_of(struct pattern x) {
-    return zk_long_double_of_pattern(x.bits, x.word);
-}
-
-static struct pattern of_long_double(long double x) {
-    struct pattern p = {zk_significand_of_long_double(x), zk_word_of_long_double(x)};
-    return p;
-}
-
 ASK(ask80, long double, ldexpl, frexpl, long_double_of, of_long_double)
 #endif
 
@@ -93,6 +70,7 @@ static struct theirs ask16(struct pattern px, int power) {
     c.significand = of_count(ldexp(frexp(x, &c.exponent), 1 - formats[BINARY16].smallest));
     c.exponent += formats[BINARY16].smallest - 1;
     c.scaled = of_count(scaled);
+    c.denormal = x != 0 && fabs(x) < 1024;
     c.scale_number = isnan(x) ? ZK_NAN : ZK_FINISHED;
     c.split_number = isnan(x) ? ZK_NAN : isinf(x) ? ZK_INFINITE : x == 0 ? ZK_ZERO_SPLIT : ZK_FINISHED;
     c.says = isinf(x) || x == 0 ? ZK_EXACT : fabs(scaled) >= 1099511627776.0 || fabs(scaled) > fabs(exact) ? ZK_UP
@@ -122,6 +100,30 @@ static void print_case(int f, struct pattern x, const char *what, struct reply r
            r.says + r.exponent, r.number, text(f, theirs), second, number);
 }
 
+static uint64_t nans, denormals;
+
+static void compare_nan(int f, struct pattern x, const char *function, struct pattern theirs) {
+    struct reply ours = call_nan(f, x, x);
+    if ((!same(ours.value, theirs) || ours.touched) && differs())
+        printf("%s NaN %s by %s:\n  zukemoriha %s%s\n  C library  %s\n", formats[f].name, text(f, x), function, text(f, ours.value),
+               ours.touched ? ", wrongly written" : "", text(f, theirs));
+}
+
+/* What is told of an operand beside its number. */
+static void compare_operand(int f, struct pattern x, struct theirs c) {
+    unsigned denormal = call_denormal(f, x);
+    if (c.scale_number == ZK_NAN && f != BINARY16) {
+        nans++;
+        compare_nan(f, x, "ldexp", c.scaled);
+        compare_nan(f, x, "frexp", c.significand);
+    }
+    if (f == X87 && is_pseudo_denormal(x))
+        return;
+    denormals += (uint64_t)c.denormal;
+    if (denormal != (unsigned)c.denormal && differs())
+        printf("%s %s denormal: %u, by the C library %d\n", formats[f].name, text(f, x), denormal, c.denormal);
+}
+
 static void compare_scaling(int f, struct pattern x, int power, struct theirs c, const char *how) {
     struct reply r = call_scale(f, x, power);
     int right = r.number == c.scale_number && !r.touched;
@@ -145,6 +147,7 @@ static void compare_splitting(int f, struct pattern x, struct theirs c) {
 
 static void compare_format(int f, uint64_t cases, uint64_t seed) {
     uint64_t i, state = seed + (uint64_t)f, refused = 0, pseudo = 0, said[3] = {0, 0, 0};
+    nans = denormals = 0;
     next_part();
     for (i = 0; going(i, cases); i++) {
         struct pattern x = any_pair(f, &state).x;
@@ -161,9 +164,15 @@ static void compare_format(int f, uint64_t cases, uint64_t seed) {
         pseudo += f == X87 && is_pseudo_denormal(x);
         compare_scaling(f, x, power, c, "scaled");
         compare_splitting(f, x, c);
+        compare_operand(f, x, c);
     }
     printf("%s: %" PRIu64 " scaled exactly, %" PRIu64 " up, %" PRIu64 " down, %" PRIu64 " refused, and all of them split\n", formats[f].name,
            said[ZK_EXACT], said[ZK_UP], said[ZK_DOWN], refused);
+    printf("  operands:");
+    print_pairs("denormal", denormals);
+    if (f != BINARY16)
+        print_pairs("NaN", nans);
+    printf("\n");
     if (f != X87)
         return;
     printf("  pseudo-denormals: %" PRIu64 "\n", pseudo);

@@ -9,6 +9,11 @@
  * remainder and remquo are the same remainder by C and IEEE 754, but in some C libraries they are not: glibc 2.36's binary64 remainder
  * takes an odd quotient at some halves, and gives some zeros the other sign than the dividend's. Such a pair is counted, and IEEE 754
  * decides it: it must be a half or a zero, the two answers must differ in the sign alone, and remquo's must be the right one.
+ *
+ * Then an eighth as many pairs with NaNs: all three functions give a NaN operand itself, made quiet. Which one of two, C does not say. In
+ * float and double it is the first one of a product, in whatever order that was compiled, in long double the processor's choice
+ * (tests/fprem.c). So the C library's NaN has to be one of the two, made quiet. Where it is the one that 3 speaks of, it is compared; where
+ * it is the other one, the pair is only counted.
  */
 #include "operands.h"
 
@@ -87,11 +92,6 @@ static struct theirs ask32(struct pattern px, struct pattern py, int all) {
 }
 
 #ifdef ZK_LONG_DOUBLE_IS_X87
-static struct pattern pattern_of(long double x) {
-    struct pattern p = {zk_significand_of_long_double(x), zk_word_of_long_double(x)};
-    return p;
-}
-
 static struct theirs ask80(struct pattern px, struct pattern py, int all) {
     long double x = zk_long_double_of_pattern(px.bits, px.word), y = zk_long_double_of_pattern(py.bits, py.word);
     struct theirs c = {{0, 0}, {0, 0}, 0, 0, all ? ALL : PROMISED, ZK_UNSUPPORTED, 1, 0, 0};
@@ -102,9 +102,9 @@ static struct theirs ask80(struct pattern px, struct pattern py, int all) {
     t = fmodl(x, y);
     r = remainderl(x, y);
     n = remquol(x, y, &c.quotient);
-    c.truncated = pattern_of(t);
+    c.truncated = of_long_double(t);
     /* glibc's remquol alone gives a pseudo-denormal back as it came, by divisors with e from 32764 on */
-    c.nearest = ordinary(pattern_of(n));
+    c.nearest = ordinary(of_long_double(n));
     c.cut = all ? cut80(x, y) : CUT(x, n, c.quotient);
     c.number = NUMBER(x, y);
     c.is_nan = isnan(t) && isnan(r) && isnan(n);
@@ -203,6 +203,90 @@ static void compare_format(int f, uint64_t pairs, uint64_t seed) {
     print_coverage(&seen, f);
 }
 
+/* ---- NaNs */
+
+enum { FMOD, REMAINDER, REMQUO, FUNCTIONS };
+
+static const char *const function_names[FUNCTIONS] = {"fmod", "remainder", "remquo"};
+
+/* What the C library makes of a pair with a NaN, and whose NaNs they are. */
+struct their_nans {
+    struct pattern given[FUNCTIONS];
+    int of_x, of_y;
+};
+
+#define ASK_NANS(NAME, TYPE, FMOD_OF, REMAINDER_OF, REMQUO_OF, OF_PATTERN, TO_PATTERN)         \
+    static struct their_nans NAME(struct pair p) {                                             \
+        TYPE x = OF_PATTERN(p.x), y = OF_PATTERN(p.y);                                         \
+        struct their_nans c;                                                                   \
+        int q;                                                                                 \
+        c.given[FMOD] = TO_PATTERN(FMOD_OF(x, y));                                             \
+        c.given[REMAINDER] = TO_PATTERN(REMAINDER_OF(x, y));                                   \
+        c.given[REMQUO] = TO_PATTERN(REMQUO_OF(x, y, &q));                                     \
+        c.of_x = isnan(x) != 0;                                                                \
+        c.of_y = isnan(y) != 0;                                                                \
+        return c;                                                                              \
+    }
+
+ASK_NANS(ask_nans64, double, fmod, remainder, remquo, double_of, of_double)
+ASK_NANS(ask_nans32, float, fmodf, remainderf, remquof, float_of, of_float)
+#ifdef ZK_LONG_DOUBLE_IS_X87
+ASK_NANS(ask_nans80, long double, fmodl, remainderl, remquol, long_double_of, of_long_double)
+#endif
+
+static struct their_nans ask_nans(int f, struct pair p) {
+#ifdef ZK_LONG_DOUBLE_IS_X87
+    if (f == X87)
+        return ask_nans80(p);
+#endif
+    return f == BINARY64 ? ask_nans64(p) : ask_nans32(p);
+}
+
+static uint64_t fraction_of(int f, struct pattern x) {
+    return x.bits & ((UINT64_C(1) << (formats[f].precision - 1)) - 1);
+}
+
+static struct pattern quiet(int f, struct pattern x) {
+    x.bits |= UINT64_C(1) << (formats[f].precision - 2);
+    return x;
+}
+
+static struct {
+    uint64_t one, two, others;
+} nans;
+
+static void compare_nan(int f, struct pair p) {
+    struct their_nans c = ask_nans(f, p);
+    struct reply ours = call_nan(f, p.x, p.y);
+    int both = c.of_x && c.of_y, is_y = both ? fraction_of(f, p.y) > fraction_of(f, p.x) : c.of_y, i;
+    struct pattern right = quiet(f, is_y ? p.y : p.x), other = quiet(f, is_y ? p.x : p.y);
+    for (i = 0; i < FUNCTIONS; i++) {
+        struct pattern theirs = c.given[i];
+        int is_other = both && same(theirs, other) && !same(theirs, right);
+        nans.others += (uint64_t)is_other;
+        nans.two += (uint64_t)(both && !is_other);
+        nans.one += !both;
+        if (!is_other && (!same(theirs, right) || !same(ours.value, theirs) || ours.touched) && differs())
+            printf("%s of %s NaNs, %s by %s:\n  zukemoriha %s%s\n  C library  %s\n", function_names[i], formats[f].name, text(f, p.x),
+                   text(f, p.y), text(f, ours.value), ours.touched ? ", wrongly written" : "", text(f, theirs));
+    }
+}
+
+static void compare_nans(int f, uint64_t pairs, uint64_t seed) {
+    uint64_t i, state = seed + (uint64_t)f;
+    memset(&nans, 0, sizeof nans);
+    next_part();
+    for (i = 0; going(i, pairs); i++) {
+        struct pair p = nan_pair(f, &state);
+        if (f != X87 || (!is_unsupported(p.x) && !is_unsupported(p.y)))
+            compare_nan(f, p);
+    }
+    printf("  NaNs of fmod, remainder and remquo:");
+    print_pairs("one", nans.one);
+    print_pairs("two", nans.two);
+    printf(" the other of two %" PRIu64 "\n", nans.others);
+}
+
 /* The third argument: how many bits remquo and remquof give. */
 static int bits_asked(int argc, char **argv) {
     long bits = argc > 3 ? strtol(argv[3], NULL, 10) : PROMISED;
@@ -217,9 +301,12 @@ int main(int argc, char **argv) {
     uint64_t pairs = pairs_asked(argc, argv, 2000000), seed = seed_asked(argc, argv);
     given = bits_asked(argc, argv);
     compare_format(BINARY64, pairs, seed);
+    compare_nans(BINARY64, pairs / 8 + 1, seed);
     compare_format(BINARY32, pairs, seed);
+    compare_nans(BINARY32, pairs / 8 + 1, seed);
 #ifdef ZK_LONG_DOUBLE_IS_X87
     compare_format(X87, pairs, seed);
+    compare_nans(X87, pairs / 8 + 1, seed);
 #else
     printf("x87: long double is another format here, not compared\n");
 #endif

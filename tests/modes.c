@@ -24,10 +24,10 @@ int main(void) {
 
 /* ---- questions and answers */
 
-enum { REM, REMQUO, STEP, RUN, SCALE, SPLIT, FOLD, OPEN, STEM_FOLD, STEM_WRITE, OPERATIONS };
+enum { REM, REMQUO, STEP, RUN, SCALE, SPLIT, DENORMAL_OPERAND, WHICH_NAN, FOLD, OPEN, STEM_FOLD, STEM_WRITE, OPERATIONS };
 
-static const char *const operation_names[OPERATIONS] = {"remainder", "remquo", "step",      "run",        "scaling",
-                                                        "split",     "list",   "stem file", "stem point", "written file"};
+static const char *const operation_names[OPERATIONS] = {"remainder", "remquo", "step", "run",       "scaling",    "split",
+                                                        "denormal",  "NaN",    "list", "stem file", "stem point", "written file"};
 
 enum { PLACES_OF_LIST = 4, FILE_LENGTH = ZK_STEM_HEADER + ZK_STEM_POINT, LONGEST_ROOM = FILE_LENGTH + 8, NUMBERS = ZK_STEM_ROOM + 1 };
 
@@ -63,6 +63,18 @@ static void answer_of_reply(struct answer *a, struct reply r) {
     a->number = r.number;
     a->touched = (uint64_t)r.touched;
     memcpy(a->values, values, sizeof values);
+}
+
+/* Of both operands. Here and for a NaN there is no number. */
+static void ask_denormal(const struct question *q, struct answer *a) {
+    a->number = NUMBERS;
+    a->values[0] = call_denormal(q->format, q->x);
+    a->values[1] = call_denormal(q->format, q->y);
+}
+
+static void ask_nan(const struct question *q, struct answer *a) {
+    answer_of_reply(a, call_nan(q->format, q->x, q->y));
+    a->number = NUMBERS;
 }
 
 /* Where a block would be a byte short, the list of quotients is. */
@@ -103,6 +115,8 @@ static void ask(const struct question *q, struct answer *a) {
     case RUN: answer_of_reply(a, call_run(q->x, q->y, q->size, q->kind, q->budget, q->length)); break;
     case SCALE: answer_of_reply(a, call_scale(q->format, q->x, q->power)); break;
     case SPLIT: answer_of_reply(a, call_split(q->format, q->x)); break;
+    case DENORMAL_OPERAND: ask_denormal(q, a); break;
+    case WHICH_NAN: ask_nan(q, a); break;
     case FOLD: ask_list(q, a); break;
     case OPEN: ask_file(q, a); break;
     case STEM_FOLD: answer_of_reply(a, call_stem_fold(q->kind, q->list[0], q->list[1], q->list[2])); break;
@@ -150,7 +164,7 @@ static struct question any_question(int operation, uint64_t *state) {
     memset(&q, 0, sizeof q);
     q.operation = operation;
     q.format = operation == STEP || operation == RUN ? X87 : operation == FOLD ? BINARY64 : below(state, FORMATS);
-    p = any_pair(q.format, state);
+    p = operation == WHICH_NAN ? nan_pair(q.format, state) : any_pair(q.format, state);
     q.x = p.x;
     q.y = p.y;
     q.kind = (uint32_t)below(state, 2);
@@ -269,7 +283,7 @@ static void print_numbers(const struct answer *answers, uint64_t cases) {
     for (i = 0; i < cases; i++)
         if (answers[i].number < NUMBERS)
             seen[answers[i].number]++;
-    printf("%" PRIu64 " questions:", cases);
+    printf("%" PRIu64 " questions, with number", cases);
     for (i = 0; i < NUMBERS; i++) {
         printf(" %u: %" PRIu64 "%s", (unsigned)i, seen[i], i < NUMBERS - 1 ? "," : "\n");
         if (seen[i] == 0 && differs())

@@ -7,6 +7,37 @@
 
 #include "calls.h"
 
+/* Between patterns and numbers of C. */
+
+static inline float float_of(struct pattern x) {
+    return zk_float_of_pattern((uint32_t)x.bits);
+}
+
+static inline struct pattern of_float(float x) {
+    struct pattern p = {zk_pattern_of_float(x), 0};
+    return p;
+}
+
+static inline double double_of(struct pattern x) {
+    return zk_double_of_pattern(x.bits);
+}
+
+static inline struct pattern of_double(double x) {
+    struct pattern p = {zk_pattern_of_double(x), 0};
+    return p;
+}
+
+#ifdef ZK_LONG_DOUBLE_IS_X87
+static inline long double long_double_of(struct pattern x) {
+    return zk_long_double_of_pattern(x.bits, x.word);
+}
+
+static inline struct pattern of_long_double(long double x) {
+    struct pattern p = {zk_significand_of_long_double(x), zk_word_of_long_double(x)};
+    return p;
+}
+#endif
+
 /* splitmix64 */
 static inline uint64_t draw(uint64_t *state) {
     uint64_t z = *state += UINT64_C(0x9E3779B97F4A7C15);
@@ -276,6 +307,21 @@ static inline struct pair any_pair(int f, uint64_t *state) {
     case 6: return tied_pair(f, state);
     default: return pair_with_gap(f, gap_in(f, any_band(state), state), state);
     }
+}
+
+/* A pair with a NaN at least. Two NaNs may have one significand, with signs alike or not, or neighbouring ones. */
+static inline struct pair nan_pair(int f, uint64_t *state) {
+    struct pair p = any_pair(f, state);
+    int drawn = below(state, 8);
+    if (drawn != 7)
+        p.x = any_nan(f, state);
+    if (drawn != 6)
+        p.y = any_nan(f, state);
+    if (drawn < 2)
+        p.y = negated(f, p.x, below(state, 2));
+    if (drawn == 1)
+        p.y.bits ^= 2;
+    return p;
 }
 
 /* Denormals one time in four: what is flushed or taken for zero is seen on them alone. */

@@ -205,11 +205,11 @@ struct lists {
 };
 
 static const uint64_t nan64 = UINT64_C(0xFFF8000000000001), infinite64 = UINT64_C(0x7FF0000000000000);
+static const uint64_t signalling64 = UINT64_C(0xFFF0000000000001); /* nan64 is what it becomes */
 static const uint64_t seven = UINT64_C(0x401C000000000000), two = UINT64_C(0x4000000000000000), one = UINT64_C(0x3FF0000000000000);
 
 static void fill_lists(struct lists *l) {
-    static const uint64_t x[4] = {UINT64_C(0x401C000000000000), UINT64_C(0xFFF8000000000001), UINT64_C(0xFFF0000000000000),
-                                  UINT64_C(0xC01C000000000000)};
+    const uint64_t x[4] = {seven, signalling64, UINT64_C(0xFFF0000000000000), UINT64_C(0xC01C000000000000)};
     memset(l, filling, sizeof *l);
     memcpy(l->x + FIRST, x, sizeof x);
 }
@@ -243,7 +243,7 @@ static void folds(void) {
     /* 7, NaN, -infinity and -7 by 2, nearest: the quotient 3.5 becomes 4 */
     for (n = 0; n <= 4; n++) {
         static const uint8_t bytes[] = {4, 255, 255, 4};
-        const uint64_t results[] = {UINT64_C(0xBFF0000000000000), ZK_HOUSE_NAN64, ZK_HOUSE_NAN64, one};
+        const uint64_t results[] = {UINT64_C(0xBFF0000000000000), nan64, ZK_HOUSE_NAN64, one};
         fill_lists(&want);
         fill_lists(&l);
         memcpy(want.results + FIRST, results, n * sizeof *results);
@@ -252,11 +252,12 @@ static void folds(void) {
         check_number(fold(&l, n, n, n, two, ZK_NEAREST), 0, "a list", BINARY64);
         check_bytes(&l, &want, sizeof l, "a list", BINARY64);
     }
-    /* by infinity: finite places are returned, infinite ones are marked all the same */
+    /* by infinity: finite places are returned, the others are marked all the same */
     fill_lists(&want);
     fill_lists(&l);
     memcpy(want.results + FIRST, want.x + FIRST, 4 * sizeof *want.x);
-    want.results[FIRST + 1] = want.results[FIRST + 2] = ZK_HOUSE_NAN64;
+    want.results[FIRST + 1] = nan64;
+    want.results[FIRST + 2] = ZK_HOUSE_NAN64;
     memset(want.quotients + FIRST, 0, 4);
     want.quotients[FIRST + 1] = want.quotients[FIRST + 2] = ZK_MARK;
     want.marked[1] = 2;
@@ -491,14 +492,6 @@ static const struct quotient_case quotient_cases[] = {
     {BINARY64, {1, 0}, {UINT64_C(0x3FF0000000000000), 0}, {{{1, 0}, 0}, {{1, 0}, 0}}},
     {X87, {1, 0}, {TOP, 0x3FFF}, {{{1, 0}, 0}, {{1, 0}, 0}}},
 };
-
-static struct pattern negated(int f, struct pattern x, int is) {
-    if (f == X87)
-        x.word ^= (uint16_t)(is << 15);
-    else
-        x.bits ^= (uint64_t)is << (8 * formats[f].width - 1);
-    return x;
-}
 
 /* With all signs: the value has the dividend's, rem's quotient none, and remquo's that of x/y. */
 static void quotients(void) {
