@@ -22,3 +22,7 @@ and-both false false e = clash (cc)
 pub and-true : (b : Bool) → b && true ≡ b
 and-true true = refl
 and-true false = refl
+
+pub and-false : (b : Bool) → b && false ≡ false
+and-false true = refl
+and-false false = refl

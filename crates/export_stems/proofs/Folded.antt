@@ -14,8 +14,8 @@ use Rattle.definitions.specs.Difference.{differenceClass, difference}
 use Rattle.definitions.specs.Stem.{Gauge, turn, roller, Point, FoldedPoint, gaugeOf, periodOf, isPositive, good, goodFields, shifted, foldReading, foldPoint, handing}
 use Rattle.laws.proofs.Folded.{good-positive, point-folded, point-left}
 use Rattle.floats.proofs.Passed.{passed, floated, class-passed}
-use Rattle.digits.proofs.Tests.{clash, and-true}
-use Rattle.gauges.proofs.Judged.{and-false, good-held}
+use Rattle.digits.proofs.Tests.{clash, and-true, and-false}
+use Rattle.gauges.proofs.Judged.{good-held}
 use Rattle.gauges.specs.Held.{gaugeHeld, gaugeBits}
 
 -- a difference does not tell one NaN from another

@@ -11,7 +11,7 @@ use Rattle.definitions.specs.Numbers.{isNan, isInfinite}
 use Rattle.definitions.specs.Fold.{bad}
 use Rattle.definitions.specs.Stem as definition
 use Rattle.definitions.specs.Stem.{turn, roller, gaugeOf, isPositive, good, goodFields}
-use Rattle.digits.proofs.Tests.{not-zero, and-true}
+use Rattle.digits.proofs.Tests.{not-zero, and-true, and-false}
 use Rattle.operands.specs.Operand.{operandOf}
 use Rattle.operands.specs.declared.Operand.{Operand}
 use Rattle.operands.specs.declared.Operand.the-variants.{Unsupported, Nan, Infinite, Zero, Finite}
@@ -29,10 +29,6 @@ positiveOperand (Nan n s) = false
 positiveOperand (Infinite n) = false
 positiveOperand (Zero n) = false
 positiveOperand (Finite u) = not (u .negative)
-
-pub and-false : (b : Bool) → b && false ≡ false
-and-false true = refl
-and-false false = refl
 
 -- neither of two, as the code asks one after the other
 pub neither-second : (a b : Bool) → not a ≡ true → not b ≡ not (a || b)

@@ -7,7 +7,7 @@ use native.Mathlib.Omega.{arith}
 use borrow.Author.Tests.{le-ltb, lt-ltb, le-leb, lt-leb, leb-true, leb-false, eq-eqb, ne-eqb}
 use lib.Dec.{leb, ltb, eqb, eqb·suc-zero}
 use lib.Pow.{pow-pos}
-use Rattle.digits.proofs.Tests.{clash, and-true}
+use Rattle.digits.proofs.Tests.{and-true, and-false}
 use Rattle.definitions.specs.Class.{Value, finite}
 use Rattle.definitions.specs.Format.{Format, Regular, topField, fieldWeight, signWeight, leading, hiddenPart, fieldsClass, classOf, ordinary}
 use Rattle.definitions.specs.Facts.{denormal}
@@ -17,10 +17,6 @@ use Rattle.laws.proofs.Fields.{Fields, low, high, finite-fields, fields
 use Rattle.laws.proofs.Pattern.{field-small, rest-small}
 use Rattle.laws.proofs.RoundTrip.{same-count}
 use Rattle.laws.proofs.Ordinary.{hidden-ordinary}
-
-and-false : (b : Bool) → b && false ≡ false
-and-false true = refl
-and-false false = refl
 
 -- a value whose field is not 0 is not below the least that has the leading digit
 fields-above : (f : Format) {e t j s : ℕ} → Fields f e t j s → (e ≡ 0 → ⊥) → leading f ≤ s * 2 ^ j

@@ -10,7 +10,7 @@ use lib.Pow.{pow-add, pow-pos, pow-mono, pow-lt, shl-lt, shr-lt}
 use lib.Ieee.{size}
 use lib.Ieee.Fits.{kept-lt}
 use Rattle.digits.specs.Digits.{Digits}
-use Rattle.digits.proofs.Tests.{clash, not-zero}
+use Rattle.digits.proofs.Tests.{clash, not-zero, and-false}
 use Rattle.digits.proofs.Digits.{digits-intro, digits-dvd, digits-lt}
 use Rattle.digits.proofs.Common.{mod-scale, eqb-scale, shift-back}
 use Rattle.definitions.specs.Division.{roundsUp}
@@ -39,10 +39,6 @@ round-finer n k i =
 
 pub round-same : (n k i m l j : ℕ) → n * 2 ^ i ≡ m * 2 ^ j → k + i ≡ l + j → round n k ≡ round m l
 round-same n k i m l j e f = sym (round-finer n k i) ∙ rw (e, f) (round-finer m l j)
-
-and-false : (t : Bool) → t && false ≡ false
-and-false true = refl
-and-false false = refl
 
 -- nothing is left of at most a half
 pub round-nothing : (n k : ℕ) → 0 < n → 2 * n ≤ 2 ^ k → round n k ≡ record { quotient = 0; says = Down }

@@ -6,17 +6,13 @@ use Prim.Native.Nat.{ℕ}
 use native.Mathlib.Omega.{arith}
 use borrow.Author.Tests.{eq-eqb, ne-eqb}
 use lib.ListN.{length, getD, take, drop, length-take, length-drop}
-use Rattle.digits.proofs.Tests.{clash}
+use Rattle.digits.proofs.Tests.{clash, and-false}
 use Rattle.definitions.specs.declared.Kind.the-variants.{Truncated}
 use Rattle.definitions.specs.Format.{binary64}
 use Rattle.definitions.specs.Remainder.{remainder}
 use Rattle.definitions.specs.Line.{allHex, hexValue, wellFormed, answerLine, badLine, lineFor}
 use Rattle.hex.specs.Field.{fieldOf}
 use Rattle.hex.specs.declared.Field.the-variants.{Number, Bad}
-
-and-false : (a : Bool) → a && false ≡ false
-and-false true = refl
-and-false false = refl
 
 -- what a field says of 16 bytes
 bad-field : (l : List ℕ) → length l ≡ 16 → fieldOf l ≡ Bad → allHex l ≡ false
