@@ -11,7 +11,7 @@ use Rattle.definitions.specs.Division.{Outcome, by, finish, dividendOf}
 use Rattle.definitions.specs.Remainder.{quotientBits}
 use Rattle.definitions.specs.Steps as Steps
 use Rattle.definitions.specs.Reports.{Report, nothing, sized, reportOf, runReport}
-use Rattle.definitions.specs.Calls.{Call, run, answer, Made, made, answers, anyAccepted, lastValue, finished, totalSteps, totalQuotient, totalBudget, Some, Listed, EachCall, All, valueAt, EveryList}
+use Rattle.definitions.specs.Calls.{Call, run, answer, Made, made, answers, anyAccepted, lastValue, finished, totalSteps, totalQuotient, totalBudget, firstDenormal, Some, Listed, EachCall, All, valueAt, EveryList}
 use Rattle.laws.proofs.Remainder.{remainder-is}
 use Rattle.chains.proofs.Outcome.{sound-finished, sound-bound, sound-ends}
 use Rattle.chains.proofs.Exact.{accounts-exact, accounts-whole}
@@ -69,6 +69,10 @@ module _ (κ : Kind) (x y : ℕ) (w : Value) (cs : List Call) (ts : List (Made �
   unfolding lastValue
   given e = rw (none-accepted ts e)
 
+  untold : anyAccepted ts ≡ false → firstDenormal y (answers ts) ≡ false
+  unfolding firstDenormal
+  untold e = rw (none-accepted ts e)
+
   claim : EveryList κ x y (valueAt x) w cs ts
   claim =
       let r = told .outcome in
@@ -88,6 +92,7 @@ module _ (κ : Kind) (x y : ℕ) (w : Value) (cs : List Call) (ts : List (Made �
         given = given;
         returned = λ e. returned (any-accepted ts e) .ordinary;
         denormal = λ e. first-denormal (answer κ y) y listed e ∙ sym (last-denormal x y ts);
+        untold = untold;
         exact = rw (told .reached) (accounts-exact (told .account));
         one = λ n rs s.
             run-is κ n (totalBudget (answers ts)) x y (valueAt x) w sx ey p (told .size n rs s) ∙ ap runTells (sym (told .one n rs))

@@ -233,6 +233,11 @@ pub first-denormals : map (λ cs. firstDenormal 0x3FFF8000000000000000 (answers 
 unfolding made answers firstDenormal denormal answer stepReport runReport size gap classOf patternOf magnitude first finish step run
 first-denormals = refl
 
+-- where none was, of nothing, whatever the divisor
+pub untold-denormals : map (λ y. firstDenormal y []) (0x3FFF8000000000000000 ∷ 0x00000000000000000001 ∷ 0x00008000000000000000 ∷ []) ≡ false ∷ false ∷ false ∷ []
+unfolding firstDenormal denormal
+untold-denormals = refl
+
 -- ---- [10.1] the bytes that are hex digits, among all, and what they stand for
 abbrev hexBytes : ℕ → ℕ → List ℕ
 hexBytes i zero = []

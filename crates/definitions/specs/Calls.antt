@@ -187,6 +187,7 @@ pub record EveryList (κ : Kind) (x y : ℕ) (v w : Value) (cs : List Call) (ts 
   pub returned : anyAccepted ts ≡ true → ordinary x87 (lastValue x (answers ts)) ≡ true
   -- [5.10] what is told of denormal operands is what the remainder in one call (whole) and one run (one) tell of the dividend as it was given
   pub denormal : anyAccepted ts ≡ true → firstDenormal y (answers ts) ≡ toldDenormal x87 (lastNumber 7 (answers ts)) x y
+  pub untold : anyAccepted ts ≡ false → firstDenormal y (answers ts) ≡ false
   -- [4.10]
   pub exact : valueOf v ≡ valueOf (valueAt (lastValue x (answers ts))) +ℤ valueOf w *ℤ partsSum w (links κ w ts)
   -- [5.8]

@@ -22,7 +22,7 @@ folding xs results quotients y = check 9 (not (eqb results xs && eqb quotients x
 abbrev pub bad : ℕ → Bool
 bad x = isNan (classOf binary64 x) || isInfinite (classOf binary64 x)
 
--- [8.3, 8.4] what a place gets: the remainder, or the house NaN, and the byte
+-- [8.3, 8.4] what a place gets: the remainder, the NaN that its dividend is, or the house NaN for an infinity; and the byte
 unfoldable pub resultAt : Kind → ℕ → ℕ → ℕ
 resultAt κ y x = remainder binary64 κ x y .value
 

@@ -1,6 +1,6 @@
 -- A pattern is denormal by its fields. Assumes nothing.
 use mathlib.Core.Path.{_≡_, sym}
-use mathlib.Core.Bool.{not}
+use mathlib.Core.Bool.{false, not}
 use Prim.Native.Nat.{ℕ}
 use borrow.Author.Tests.{eq-eqb, ne-eqb}
 use lib.Dec.{eqb}
@@ -14,6 +14,6 @@ module _ (f : Format) (b : ℕ) (r : Fields) (is : r ≡ fieldsIn f b) where
   unfolding denormal
   field-none e = rw (is, eq-eqb _ 0 (rw is at e))
 
-  pub field-some : (r .field ≡ 0 → ⊥) → eqb (r .field) 0 ≡ denormal f b
+  pub field-some : (r .field ≡ 0 → ⊥) → false ≡ denormal f b
   unfolding denormal
-  field-some h = rw (is, ne-eqb _ 0 (rw is at h))
+  field-some h = rw (ne-eqb _ 0 (rw is at h))

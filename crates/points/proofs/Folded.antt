@@ -80,12 +80,12 @@ module _ (p x : ℕ) (above : isPositive (classOf binary64 p) ≡ true) (a : Rem
       let z : not (bad x) ≡ true = sym number-tells ∙ ap (λ (r : Remainder). eqb (r .number) 0) is in
       rw (not-true (bad x) z, is) (omega arith)
 
-  pub refused : (w : Refusal) (v : Pattern) → a ≡ Refused w v → houseNan binary64 ≡ left
+  pub refused : (w : Refusal) (v : Pattern) (n : ℕ) → a ≡ Refused w v → n ≡ houseNan binary64 → n ≡ left
   unfolding remainderMeaning
-  refused w v e =
+  refused w v n e h =
       let is = ap (λ (r : Remainder). r .number) (sym told ∙ ap remainderMeaning e) in
       let z : not (bad x) ≡ false = sym number-tells ∙ ap (λ (n : ℕ). eqb n 0) is ∙ refusal-some w in
-      rw (not-false (bad x) z)
+      rw (not-false (bad x) z) h
 
 first-of : (a b : Bool) → a || b ≡ false → a || false ≡ false
 first-of true b e = clash (cc)

@@ -69,6 +69,7 @@ fn fold_reading(gauge: Gauge, reading: u64) -> u64
     remainder_by(period_of(gauge), shifted(gauge, reading))
 }
 
+// Of a float that is a NaN its bits are left free: as a pattern, which C gets, the folded reading is the house NaN.
 pub fn fold_point(gauge: Gauge, point: Point) -> FoldedPoint
     ensures { λ r. ⌜ foldedBits r ≡ foldPoint (gaugeBits gauge) (pointBits point) ⌝ }
 {

@@ -1,4 +1,5 @@
 -- `remainder_by` meets its contract. Assumes nothing.
+use mathlib.Core.Path.{refl}
 use Rattle.points.proofs.Folded.{finished, refused}
 use borrow.Author.Needs.{needs}
 use Rattle.points.proofs.remainder_by.Statement.{statement}
@@ -23,7 +24,7 @@ returns-2 : tie.Need-returns-2
 returns-2 c =
     let r = c .before .before in
     let s = r .before in
-    refused (s .args .period) (s .args .x) (s .pre) (r .remainder64 .result .answer) (r .remainder64 .ensures .0) _ _ (c .enum-told .given .1)
+    refused (s .args .period) (s .args .x) (s .pre) (r .remainder64 .result .answer) (r .remainder64 .ensures .0) _ _ _ (c .enum-told .given .1) refl
 
 pub remainder-by-spec : {M : Type 1} → statement M
 remainder-by-spec =
