@@ -12,8 +12,8 @@
  *     as it was, byte for byte, *value, *valuew, *quotient, *marked, *written, the block and the room included.
  *   - Where several refusals apply, the first in the order 9, 6, 2, 3, 4, 5, 8 is returned; 7 comes after them. Stem files have orders
  *     of their own (zk_stem_open, zk_stem_fold, zk_stem_write).
- *   - A refusal writes nothing, so a host that wants to know which operand was bad asks: under 3 zk_nan* for the NaN itself. Whether an
- *     operand was denormal it asks zk_denormal*, under any number but 6.
+ *   - A refusal writes nothing, so a host that wants to know more of the operands asks: under 3 zk_nan* for the NaN itself, and
+ *     zk_denormal* whether an operand was denormal; under 6 none counts as one.
  *   - kind: 0 is the truncated remainder (C's fmod, the processor's FPREM), any other number is the nearest one (C's remainder, IEEE 754,
  *     FPREM1). The kind of a stem file is another thing: ZK_TURN or ZK_ROLLER, and no other number.
  *   - The host's duty, which no function can check: each pointer is not null and is aligned for its type, also where a length is 0; it
@@ -89,9 +89,9 @@ enum zk_says {
 #define ZK_MARK 255u
 
 /*
- * The house NaN of binary64: what is written where there is no value and no NaN to give. That is the place of an infinite x[i] in a folded
- * list, the reading of a stem file's point that cannot be folded, and zk_nan64 of two operands that are no NaNs. It is positive and quiet,
- * and its other fraction bits are 0.
+ * The house NaN of binary64: positive and quiet, its other fraction bits 0. It is written at the place of an infinite x[i] in a folded list
+ * and as the reading of a stem file's point that cannot be folded, whatever NaN that was, and zk_nan64 gives it of two operands that are no
+ * NaNs. An operand may be this very pattern: then it is what is given too.
  */
 #define ZK_HOUSE_NAN64 UINT64_C(0x7FF8000000000000)
 
@@ -189,8 +189,9 @@ uint8_t zk_split80(uint64_t x, uint16_t xw, uint64_t *significand, uint16_t *sig
  * Whether a pattern is a denormal's: 1 where it is not zero and its exponent field is 0, of either sign, else 0. In x87 (e = 0 and s not 0,
  * see zk_rem80) pseudo-denormals count; unsupported patterns, whose e is from 1, do not.
  *
- * A remainder, step, run, scaling or split had a denormal operand if any of its operands, as given, is one, under every number but 6 (a
- * wrong size), where it had none. Runs that are joined after a 7 had what the first one had: the value that it reached is not asked.
+ * A remainder, step, run, scaling or split had a denormal operand if any of its operands, as given, is one. With the number 6 (a wrong
+ * size) it counts as having had none: that is the host's to look at. Runs that are joined after a 7 had what the first one had: the value
+ * that it reached is not asked, which may be a denormal where no operand was.
  */
 uint8_t zk_denormal16(uint16_t x);
 uint8_t zk_denormal32(uint32_t x);

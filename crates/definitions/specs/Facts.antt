@@ -7,8 +7,8 @@ use Rattle.definitions.specs.Format.{Format, topField, leading, fieldWei
 
 -- ---- which NaN
 
--- [2.11] of two operands: of a NaN and anything else the NaN; of two NaNs the one with the larger significand, and the dividend's where they are equal.
--- Where neither is one, it is none
+-- [2.11] of two operands: of a NaN and anything else the NaN; of two NaNs the one with the larger significand, and the dividend's where they
+-- are equal. Where neither is one, it is none
 abbrev pub nanAgainst : Bool → ℕ → Class → Class
 nanAgainst m s unsupported = nan m s
 nanAgainst m s (nan n t) = cond (ltb s t) (nan n t) (nan m s)
@@ -35,7 +35,7 @@ quietPattern f (nan n s) = patternOf f (nan n (quieted f s))
 quietPattern f (infinite n) = houseNan f
 quietPattern f (finite v) = houseNan f
 
--- [2.11, 2.12] the NaN that the refusal 3 of x and y speaks of. An operation on one operand has it for both
+-- [2.11, 2.12] the NaN that the refusal 3 of x and y speaks of. An operation on one operand hands it over twice
 unfoldable pub nanOf : Format → Class → Class → ℕ
 unfolding patternOf
 nanOf f x y = quietPattern f (chosen x y)
@@ -51,6 +51,7 @@ refusedValue f n x y = cond (eqb n 3) (nanOf f x y) (houseNan f)
 unfoldable pub denormal : Format → ℕ → Bool
 denormal f b = eqb (b / fieldWeight f % (topField f + 1)) 0 && not (eqb (b % fieldWeight f) 0)
 
--- [7.7] what a call of the number n tells of its operands as they are given, the patterns x and y. An operation on one operand has it for both
+-- [7.7] what a call of the number n tells of its operands as they are given, the patterns x and y. An operation on one operand hands it over
+-- twice
 abbrev pub toldDenormal : Format → ℕ → ℕ → ℕ → Bool
 toldDenormal f n x y = not (eqb n 6) && (denormal f x || denormal f y)
