@@ -1,6 +1,8 @@
-// The straightforward peers: truncated binary64 remainders by shifting and subtracting, one bit at a time, with the same refusals and
-// quotients as the library's. Two of them, since what the compiler makes of the inner `if` decides the speed: one that branches on
-// every quotient bit, as a reader would write it, and one without a branch on the bits.
+// The straightforward peers: truncated binary64 remainders by shifting and subtracting, one bit at
+// a time, with the library's refusals and quotients. A list's bad readings are all marked by the
+// house NaN. Two of them, since what the compiler makes of the inner `if` decides the speed: one
+// that branches on every quotient bit, as a reader would write it, and one without a branch on the
+// bits.
 // Built by `rustc -O --crate-type staticlib`, no crates.
 #![no_std]
 

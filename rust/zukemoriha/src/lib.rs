@@ -17,8 +17,9 @@
 //! ```
 //!
 //! - **Every bit pattern is taken.** Nothing has to be looked at before a call: bad input is
-//!   refused by a [`Refusal`], and a refused call writes nothing. Which operand is the NaN, and
-//!   whether one is denormal, is told too.
+//!   refused by a [`Refusal`], and a refused call writes nothing. Calls on numbers return it in a
+//!   [`Refused`], which also holds the NaN that they were refused for and whether an operand was
+//!   denormal; `?` turns one into the other.
 //! - **Exact.** A remainder is right to the last bit and the sign of zero, however far apart the
 //!   operands are. Only scaling and a roller's subtraction round: once, ties to even.
 //! - **Proved.** The archive that does the work is written in Rattle, a systems language like

@@ -272,11 +272,12 @@ pub fn step(x: X87, y: X87, size: u32, kind: Kind) -> Result<Stepped, Refused<X8
 
 /// [Steps](self#steps) of one size, until one finishes or the budget is spent.
 ///
-/// The answer is [`Finished`](crate::Answer::Finished) or [`Spent`](crate::Answer::Spent). A run that has spent
-/// its budget may be continued from its value: steps and quotients are then to be added, the
-/// quotients modulo 2^31, [`QUOTIENT_MODULUS`](crate::QUOTIENT_MODULUS). Whether an operand was
-/// denormal is what the first run tells: the next one is not given the dividend as it was, but a
-/// value in its [ordinary pattern](X87#the-ordinary-pattern).
+/// The answer is [`Finished`](crate::Answer::Finished) or [`Spent`](crate::Answer::Spent). A run
+/// that has spent its budget may be continued from its value: steps and quotients are then to be
+/// added, the quotients modulo 2^31, [`QUOTIENT_MODULUS`](crate::QUOTIENT_MODULUS). Whether an
+/// operand was denormal is what the first run tells: the next one is not given the dividend as it
+/// was, but a value in its [ordinary pattern](X87#the-ordinary-pattern), and that may be denormal
+/// where no operand was.
 ///
 /// # Errors
 ///
@@ -427,12 +428,12 @@ pub fn denormal(x: X87) -> bool {
     yes(unsafe { raw::zk_denormal80(x.significand, x.word) })
 }
 
-/// The NaN that [`Refusal::Nan`] speaks of where `x` and `y` are the operands. It is made quiet: bit
-/// 62 of its significand is set, and its sign and all other bits are kept.
+/// The NaN that [`Refusal::Nan`] speaks of where `x` and `y` are the operands. It is made quiet:
+/// bit 62 of its significand is set, and its sign and all other bits are kept.
 ///
 /// If one operand is NaN it is that one; of two, the one whose significand is larger as given, and
-/// `x` where they are equal. Where neither is NaN it is [`HOUSE_NAN`]. A NaN is returned also beside
-/// an unsupported operand, where a call is refused with [`Refusal::Unsupported`].
+/// `x` where they are equal. Where neither is NaN it is [`HOUSE_NAN`]. A NaN is returned also
+/// beside an unsupported operand, where a call is refused with [`Refusal::Unsupported`].
 ///
 /// # Examples
 ///
