@@ -1,1 +1,4 @@
-pub mod Multiplied
+pub mod Count
+pub mod Digits
+pub mod Places
+pub mod Zeros

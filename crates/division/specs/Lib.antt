@@ -1,1 +1,2 @@
 pub mod Divided
+pub mod Divisions

@@ -1,3 +1,4 @@
+pub mod Divisions
 pub mod Link
 pub mod Settled
 pub mod Below

@@ -2,7 +2,7 @@
 // Only crates of this repository call these, with operands as `unpack` makes them.
 use definitions::Kind;
 use division::Divided;
-use division::divide;
+use division::divide_counted;
 use operands::Operand;
 use operands::Unpacked;
 use operands::normalise;
@@ -14,6 +14,7 @@ ghost use Rattle.definitions.specs.Class.{Value};
 ghost use Rattle.definitions.specs.Division.{roundsUp, finishBy};
 ghost use Rattle.operands.specs.Operand.{Ready, Unpacks};
 ghost use Rattle.pairs.specs.Pair.{leftOf, settledOf, belowOf};
+ghost use Rattle.pairs.specs.Divisions.{pairDivisions};
 
 // What is left of a dividend, and the low 32 bits of the quotient that was taken off.
 pub struct Left {
@@ -31,7 +32,7 @@ pub fn gap(x: Unpacked, y: Unpacked) -> i32
 
 // Whether a quotient with this left-over goes up: past a half, or at a half where the quotient is odd. Twice the left-over need not fit
 // a word, so it stands on both sides of the comparison.
-fn rounds_up(kind: Kind, quotient: u32, remainder: u64, divisor: u64) -> bool
+pub fn rounds_up(kind: Kind, quotient: u32, remainder: u64, divisor: u64) -> bool
     requires { ⌜ remainder < divisor ⌝ }
     ensures { λ r. ⌜ r ≡ roundsUp kind quotient remainder divisor ⌝ }
 {
@@ -91,14 +92,34 @@ fn settle_below(kind: Kind, x: Unpacked, y: Unpacked, d: i32) -> Left
     }
 }
 
+// The same with the divisions by the divisor's significand.
+pub struct LeftCounted {
+    pub left: Left,
+    pub divisions: u32,
+}
+
 // The remainder of the kind, finished. `d` is the gap.
+pub fn finish_counted(kind: Kind, x: Unpacked, y: Unpacked, d: i32) -> LeftCounted
+    requires { ⌜ Ready x × Ready y × (d ≡ x .exponent -ℤ y .exponent) ⌝ }
+    ensures left { λ r. ⌜ ((s : ℤ) (v w : Value) → Unpacks s v x → Unpacks s w y → r .left ≡ leftOf s (finishBy kind (w .count) v)) ⌝ }
+    ensures divisions { λ r. ⌜ r .divisions ≡ pairDivisions x y ⌝ }
+{
+    if d < 0 {
+        return LeftCounted {
+            left: settle_below(kind, x, y, d),
+            divisions: 0,
+        };
+    }
+    let counted = divide_counted(x.significand, y.significand, d as u32);
+    LeftCounted {
+        left: settle(kind, x.negative, counted.divided, y.significand, y.exponent),
+        divisions: counted.divisions,
+    }
+}
+
 pub fn finish_pair(kind: Kind, x: Unpacked, y: Unpacked, d: i32) -> Left
     requires { ⌜ Ready x × Ready y × (d ≡ x .exponent -ℤ y .exponent) ⌝ }
     ensures { λ r. ⌜ ((s : ℤ) (v w : Value) → Unpacks s v x → Unpacks s w y → r ≡ leftOf s (finishBy kind (w .count) v)) ⌝ }
 {
-    if d < 0 {
-        return settle_below(kind, x, y, d);
-    }
-    let left = divide(x.significand, y.significand, d as u32);
-    settle(kind, x.negative, left, y.significand, y.exponent)
+    finish_counted(kind, x, y, d).left
 }

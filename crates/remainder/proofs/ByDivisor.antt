@@ -26,11 +26,16 @@ use Rattle.packing.proofs.Standing.{stands-value, value-of, value-class, unpack
 use Rattle.laws.proofs.Division.{finish-far, finish-held}
 use Rattle.pairs.specs.declared.Left.{Left}
 use Rattle.pairs.specs.Pair.{leftOf}
+use Rattle.pairs.specs.Divisions.{divisorDivisions}
 use Rattle.quotients.proofs.Bits.{bits-low}
 
 -- a pattern and quotient bits that are those of an outcome
 abbrev pub Writes : Format → ℕ → ℕ → Outcome → Type 0
 Writes f p q r = (p ≡ patternOf f (finite (r .value))) × (q ≡ quotientBits (r .whole))
+
+-- what the code has found not to be unpacked is not divided
+pub not-divided : (x : Operand) → OneOf (0 ∷ 1 ∷ 2 ∷ 3 ∷ []) (tagOf the-type x) → (y : Divisor) → 0 ≡ divisorDivisions x y
+not-divided x k y = other-cases (λ (o : Operand). 0 ≡ divisorDivisions o y) refl (λ n s. refl) (λ n. refl) (λ n. refl) x k
 
 module _ (f : Format) (ok : Sound f) (κ : Kind) where
   -- a value that is packed as it is

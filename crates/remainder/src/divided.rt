@@ -10,7 +10,7 @@ use operands::Divisor;
 use operands::Operand;
 use operands::divisor_of;
 use packing::pack::pack;
-use pairs::finish_pair;
+use pairs::finish_counted;
 use pairs::gap;
 use quotients::quotient_bits;
 use shapes::shape::Shape;
@@ -20,14 +20,16 @@ ghost use Rattle.definitions.specs.Format.{patternOf};
 ghost use Rattle.definitions.specs.Division.{finish};
 ghost use Rattle.definitions.specs.Remainder.{quotientBits, remainderOf};
 ghost use Rattle.definitions.specs.Answers.{remainderMeaning, joined};
-ghost use Rattle.operands.specs.Operand.{classIn, valueOperand, divisorIn};
+ghost use Rattle.operands.specs.Operand.{classIn, valueOperand, divisorOperand, divisorIn};
 ghost use Rattle.shapes.specs.Shape.{formatOf, Sound};
+ghost use Rattle.pairs.specs.Divisions.{divisorDivisions};
 ghost use Rattle.packing.specs.Stands.{Stands, StandsValue, StandsDivisor};
 
-// A remainder's pattern and its quotient bits.
+// A remainder's pattern, its quotient bits, and the divisions by the divisor's significand.
 pub struct Residue {
     pub value: Pattern,
     pub quotient: u32,
+    pub divisions: u32,
 }
 
 // A finite value by a divisor that has been judged: a list judges its divisor once. A zero, and a value by an infinite divisor, are
@@ -36,44 +38,69 @@ pub fn divide_by(shape: Shape, x: Operand, y: Divisor, kind: Kind) -> Residue
     requires { ⌜ Sound (formatOf shape) × StandsValue (formatOf shape) x × StandsDivisor (formatOf shape) y ⌝ }
     ensures value { λ r. ⌜ joined (r .value) ≡ patternOf (formatOf shape) (finite (finish kind (divisorIn (shape .smallest) y) (valueOperand (shape .smallest) x) .value)) ⌝ }
     ensures quotient { λ r. ⌜ r .quotient ≡ quotientBits (finish kind (divisorIn (shape .smallest) y) (valueOperand (shape .smallest) x) .whole) ⌝ }
+    ensures divisions { λ r. ⌜ r .divisions ≡ divisorDivisions x y ⌝ }
 {
     let Operand::Finite(a) = x else {
         return Residue {
             value: pack(shape, x),
             quotient: 0,
+            divisions: 0,
         };
     };
     let Divisor::By(b) = y else {
         return Residue {
             value: pack(shape, x),
             quotient: 0,
+            divisions: 0,
         };
     };
-    let left = finish_pair(kind, a, b, gap(a, b));
+    let counted = finish_counted(kind, a, b, gap(a, b));
+    let left = counted.left;
     let value = left.value;
     Residue {
         value: pack(shape, value),
         quotient: quotient_bits(left.quotient),
+        divisions: counted.divisions,
     }
 }
 
+// An answer, and the divisions by the divisor's significand.
+pub struct AnswerCounted {
+    pub answer: RemainderAnswer,
+    pub divisions: u32,
+}
+
 // Any two operands.
-pub fn remainder_of(shape: Shape, x: Operand, y: Operand, kind: Kind) -> RemainderAnswer
+pub fn remainder_counted(shape: Shape, x: Operand, y: Operand, kind: Kind) -> AnswerCounted
     requires { ⌜ Sound (formatOf shape) × Stands (formatOf shape) x × Stands (formatOf shape) y ⌝ }
-    ensures { λ r. ⌜ remainderMeaning r ≡ remainderOf (formatOf shape) kind (classIn (shape .smallest) x) (classIn (shape .smallest) y) ⌝ }
+    ensures answer { λ r. ⌜ remainderMeaning (r .answer) ≡ remainderOf (formatOf shape) kind (classIn (shape .smallest) x) (classIn (shape .smallest) y) ⌝ }
+    ensures divisions { λ r. ⌜ r .divisions ≡ divisorDivisions x (divisorOperand y) ⌝ }
 {
     match judge_pair(x, y) {
-        Verdict::Refused(why) => RemainderAnswer::Refused {
-            why,
-            value: refused_value(shape, why, x, y),
+        Verdict::Refused(why) => AnswerCounted {
+            answer: RemainderAnswer::Refused {
+                why,
+                value: refused_value(shape, why, x, y),
+            },
+            divisions: 0,
         },
         Verdict::Accepted => {
             let divided = divide_by(shape, x, divisor_of(y), kind);
             let value = divided.value;
-            RemainderAnswer::Finished {
-                value,
-                quotient: divided.quotient,
+            AnswerCounted {
+                answer: RemainderAnswer::Finished {
+                    value,
+                    quotient: divided.quotient,
+                },
+                divisions: divided.divisions,
             }
         }
     }
+}
+
+pub fn remainder_of(shape: Shape, x: Operand, y: Operand, kind: Kind) -> RemainderAnswer
+    requires { ⌜ Sound (formatOf shape) × Stands (formatOf shape) x × Stands (formatOf shape) y ⌝ }
+    ensures { λ r. ⌜ remainderMeaning r ≡ remainderOf (formatOf shape) kind (classIn (shape .smallest) x) (classIn (shape .smallest) y) ⌝ }
+{
+    remainder_counted(shape, x, y, kind).answer
 }

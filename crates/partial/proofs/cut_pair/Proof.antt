@@ -45,7 +45,7 @@ module _ (s : tie.Start) where
   lower = sub-is (s .args .x .exponent) (pos (s .args .size)) _ _ exponent-back size-back (omega (arith, x-ready .small)) (omega (arith, small))
 
 divide-requires : tie.Need-divide-requires
-divide-requires c κs = lt-of-lt-of-le (pow-pos 63) (y-ready c .top)
+divide-requires c κs = y-ready c .top
 
 cast-settle : tie.Need-cast-settle
 cast-settle c = record { sfits = omega (arith, small (c .before)) }

@@ -1,5 +1,5 @@
 -- `divide_by` meets its contract: a zero, or a value by an unbounded divisor, is packed as it is, and of two values what is left. Assumes nothing.
-use mathlib.Core.Path.{_∙_, subst}
+use mathlib.Core.Path.{refl, _∙_, subst}
 use mir.Syntax.{w32}
 use mir.ValLaws.{toZ-ofZ}
 use Rattle.definitions.specs.Format.{Format}
@@ -8,7 +8,7 @@ use Rattle.shapes.specs.Shape.{formatOf}
 use Rattle.packing.specs.Stands.{StandsValue, StandsDivisor}
 use Rattle.packing.proofs.Standing.{value-stands, ready}
 use Rattle.operands.proofs.Cases.{other-unbounded}
-use Rattle.remainder.proofs.ByDivisor.{by-unbounded, zero-kept, left-stands, left-written}
+use Rattle.remainder.proofs.ByDivisor.{not-divided, by-unbounded, zero-kept, left-stands, left-written}
 use borrow.Author.Needs.{needs}
 use Rattle.remainder.proofs.divided.divide_by.Statement.{statement}
 use Rattle.remainder.proofs.divided.divide_by.Tie as tie
@@ -22,7 +22,9 @@ pack-requires c κs = let s = c .before in (s .pre .0, value-stands (formatOf (s
 returns : tie.Need-returns
 returns c =
     let s = c .before .before in
-    zero-kept (formatOf (s .args .shape)) (s .pre .0) (s .args .kind) (s .args .x) (s .pre .1) _ (c .pack .ensures) (c .before .match .keys2) (s .args .y) (s .pre .2)
+    let k = c .before .match .keys2 in
+    let z = zero-kept (formatOf (s .args .shape)) (s .pre .0) (s .args .kind) (s .args .x) (s .pre .1) _ (c .pack .ensures) k (s .args .y) (s .pre .2) in
+    (z .0, (z .1, not-divided (s .args .x) k (s .args .y)))
 
 enum-known-y : tie.Need-enum-known-y
 enum-known-y c = search needs
@@ -40,8 +42,8 @@ returns-2 c =
     let s = c .before .before .before .before .before .before in
     let f = formatOf (s .args .shape) in
     let e = c .before .before .before .before .x .given .1 in
-    rw (e, other-unbounded (s .args .y) (c .before .before .match2 .keys2))
-    (by-unbounded f (s .pre .0) (s .args .kind) _ (rw e at (s .pre .1)) _ (c .pack2 .ensures))
+    let u = by-unbounded f (s .pre .0) (s .args .kind) _ (rw e at (s .pre .1)) _ (c .pack2 .ensures) in
+    rw (e, other-unbounded (s .args .y) (c .before .before .match2 .keys2)) (u .0, (u .1, refl))
 
 -- the two numbers
 module _ (c : tie.After-known-told2) where
@@ -64,18 +66,18 @@ gap-requires : tie.Need-gap-requires
 unfolding format start
 gap-requires c κs = (ready (format c) (start c .pre .0) _ (dividend c), ready (format c) (start c .pre .0) _ (divisor c))
 
-finish-pair-requires : tie.Need-finish-pair-requires
+finish-counted-requires : tie.Need-finish-counted-requires
 unfolding format start
-finish-pair-requires c κs =
+finish-counted-requires c κs =
     let b = c .before in
     (ready (format b) (start b .pre .0) _ (dividend b), ready (format b) (start b .pre .0) _ (divisor b), toZ-ofZ w32 (c .gap .result) (record { sfits = c .gap .ok }) ∙ c .gap .ensures)
 
 pack-requires-3 : tie.Need-pack-requires-3
 unfolding format start
 pack-requires-3 c κs =
-    let b = c .before .before in
+    let b = c .before .before .before in
     let s = start b in
-    (s .pre .0, value-stands (format b) (s .pre .0) _ (left-stands (format b) (s .pre .0) (s .args .kind) _ _ (dividend b) (divisor b) (c .finish-pair .result) (c .finish-pair .ensures)))
+    (s .pre .0, value-stands (format b) (s .pre .0) _ (left-stands (format b) (s .pre .0) (s .args .kind) _ _ (dividend b) (divisor b) (c .before .finish-counted .result .left) (c .before .finish-counted .ensures .0)))
 
 quotient-bits-requires : tie.Need-quotient-bits-requires
 quotient-bits-requires c κs = search needs
@@ -83,11 +85,11 @@ quotient-bits-requires c κs = search needs
 returns-3 : tie.Need-returns-3
 unfolding format start
 returns-3 c =
-    let l = c .before .before in
+    let l = c .before .before .before in
     let b = l .before .before in
     let s = start b in
-    rw (b .before .before .before .before .x .given .1, b .before .y .given .1)
-    (left-written (format b) (s .pre .0) (s .args .kind) _ _ (dividend b) (divisor b) (l .finish-pair .result) (l .finish-pair .ensures) _ _ (c .before .pack3 .ensures) (c .quotient-bits .ensures))
+    let w = left-written (format b) (s .pre .0) (s .args .kind) _ _ (dividend b) (divisor b) (l .finish-counted .result .left) (l .finish-counted .ensures .0) _ _ (c .before .pack3 .ensures) (c .quotient-bits .ensures) in
+    rw (b .before .before .before .before .x .given .1, b .before .y .given .1) (w .0, (w .1, l .finish-counted .ensures .1))
 
 pub divide-by-spec : {M : Type 1} → statement M
 divide-by-spec =
@@ -101,7 +103,7 @@ divide-by-spec =
     pack-requires-2
     returns-2
     gap-requires
-    finish-pair-requires
+    finish-counted-requires
     pack-requires-3
     quotient-bits-requires
     returns-3)

@@ -1,0 +1,4 @@
+pub mod Normals
+pub mod Operands
+pub mod Scaled
+pub mod Magnitude

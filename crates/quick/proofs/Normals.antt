@@ -1,0 +1,48 @@
+-- What two patterns of the common case stand for, and what the definition answers for them. Assumes nothing.
+use mathlib.Core.Path.{_≡_, ap, _∙_}
+use mathlib.Core.Bool.{true, _&&_}
+use Prim.Native.Nat.{ℕ, _+_, _-_, _*_, _%_, _^_, _≤_, _<_}
+use native.Mathlib.Nat.{add-comm}
+use native.Mathlib.Omega.{arith}
+use borrow.Author.Tests.{ltb-true, leb-true, ne-eqb}
+use lib.Dec.{ltb, leb}
+use Rattle.digits.proofs.Tests.{and-both, not-zero}
+use Rattle.definitions.specs.Class.{Value, finite}
+use Rattle.definitions.specs.Format.{binary64, classOf, patternOf}
+use Rattle.definitions.specs.Numbers.{first}
+use Rattle.definitions.specs.Facts.{refusedValue}
+use Rattle.definitions.specs.Division.{finishBy, finish}
+use Rattle.definitions.specs.Remainder.{quotientBits, remainderOf, remainder}
+use Rattle.definitions.specs.declared.Kind.{Kind}
+use Rattle.quick.specs.Common.{fieldOf, common}
+
+pub record Fields (x y : ℕ) : Type 0 where
+  pub below-top : fieldOf x < 2047
+  pub some : 0 < fieldOf y
+  pub order : fieldOf y ≤ fieldOf x
+
+pub fields : (x y : ℕ) → common x y ≡ true → Fields x y
+fields x y e =
+    let a = and-both (ltb (fieldOf x) 2047 && ltb 0 (fieldOf y)) (leb (fieldOf y) (fieldOf x)) e in
+    let b = and-both (ltb (fieldOf x) 2047) (ltb 0 (fieldOf y)) (a .0) in
+    record { below-top = ltb-true (fieldOf x) 2047 (b .0); some = ltb-true 0 (fieldOf y) (b .1); order = leb-true (fieldOf y) (fieldOf x) (a .1) }
+
+-- the value of a normal pattern
+abbrev pub significandOf : ℕ → ℕ
+significandOf b = b % 2 ^ 52 + 2 ^ 52
+
+abbrev pub valueOf : ℕ → Value
+valueOf b = record { negative = leb (2 ^ 63) b; count = significandOf b * 2 ^ (fieldOf b - 1) }
+
+pub normal-class : (b : ℕ) → 0 < fieldOf b → fieldOf b < 2047 → classOf binary64 b ≡ finite (valueOf b)
+unfolding classOf
+normal-class b some low =
+    simp (ne-eqb (fieldOf b) 2047 (λ h. omega arith), not-zero (fieldOf b) some)
+    (ap (λ (k : ℕ). finite (record { negative = leb (2 ^ 63) b; count = k * 2 ^ (fieldOf b - 1) })) (add-comm (2 ^ 52) (b % 2 ^ 52)))
+
+-- the definition's answer for two values, of which the divisor is not zero
+pub finite-answer : (κ : Kind) (x y : ℕ) (v w : Value) → classOf binary64 x ≡ finite v → classOf binary64 y ≡ finite w → 0 < w .count
+    → remainder binary64 κ x y
+    ≡ record { number = 0; value = patternOf binary64 (finite (finishBy κ (w .count) v .value)); quotient = quotientBits (finishBy κ (w .count) v .whole) }
+unfolding remainder remainderOf first finish refusedValue
+finite-answer κ x y v w cx cy some = rw (cx, cy, not-zero (w .count) some)

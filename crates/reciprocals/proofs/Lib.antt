@@ -1,0 +1,4 @@
+pub mod Found
+pub mod Guess
+pub mod Quotients
+pub mod Upper
