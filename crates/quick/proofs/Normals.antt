@@ -2,10 +2,11 @@
 use mathlib.Core.Path.{_≡_, ap, _∙_}
 use mathlib.Core.Bool.{true, _&&_}
 use Prim.Native.Nat.{ℕ, _+_, _-_, _*_, _%_, _^_, _≤_, _<_}
-use native.Mathlib.Nat.{add-comm}
+use native.Mathlib.Nat.{add-comm, mul-pos}
 use native.Mathlib.Omega.{arith}
 use borrow.Author.Tests.{ltb-true, leb-true, ne-eqb}
 use lib.Dec.{ltb, leb}
+use lib.Pow.{pow-pos}
 use Rattle.digits.proofs.Tests.{and-both, not-zero}
 use Rattle.definitions.specs.Class.{Value, finite}
 use Rattle.definitions.specs.Format.{binary64, classOf, patternOf}
@@ -34,15 +35,29 @@ significandOf b = b % 2 ^ 52 + 2 ^ 52
 abbrev pub valueOf : ℕ → Value
 valueOf b = record { negative = leb (2 ^ 63) b; count = significandOf b * 2 ^ (fieldOf b - 1) }
 
-pub normal-class : (b : ℕ) → 0 < fieldOf b → fieldOf b < 2047 → classOf binary64 b ≡ finite (valueOf b)
+pub count-pos : (b : ℕ) → 0 < valueOf b .count
+count-pos b = mul-pos (omega arith) (pow-pos (fieldOf b - 1))
+
+normal-class : (b : ℕ) → 0 < fieldOf b → fieldOf b < 2047 → classOf binary64 b ≡ finite (valueOf b)
 unfolding classOf
 normal-class b some low =
     simp (ne-eqb (fieldOf b) 2047 (λ h. omega arith), not-zero (fieldOf b) some)
     (ap (λ (k : ℕ). finite (record { negative = leb (2 ^ 63) b; count = k * 2 ^ (fieldOf b - 1) })) (add-comm (2 ^ 52) (b % 2 ^ 52)))
 
--- the definition's answer for two values, of which the divisor is not zero
-pub finite-answer : (κ : Kind) (x y : ℕ) (v w : Value) → classOf binary64 x ≡ finite v → classOf binary64 y ≡ finite w → 0 < w .count
-    → remainder binary64 κ x y
-    ≡ record { number = 0; value = patternOf binary64 (finite (finishBy κ (w .count) v .value)); quotient = quotientBits (finishBy κ (w .count) v .whole) }
-unfolding remainder remainderOf first finish refusedValue
-finite-answer κ x y v w cx cy some = rw (cx, cy, not-zero (w .count) some)
+-- both operands, and the definition's answer for them
+module _ (x y : ℕ) (fs : Fields x y) where
+  pub dividend : classOf binary64 x ≡ finite (valueOf x)
+  dividend = normal-class x (omega arith) (fs .below-top)
+
+  pub divisor : classOf binary64 y ≡ finite (valueOf y)
+  divisor = normal-class y (fs .some) (omega arith)
+
+  pub answer : (κ : Kind)
+      → remainder binary64 κ x y
+      ≡ record {
+        number = 0;
+        value = patternOf binary64 (finite (finishBy κ (valueOf y .count) (valueOf x) .value));
+        quotient = quotientBits (finishBy κ (valueOf y .count) (valueOf x) .whole);
+      }
+  unfolding remainder remainderOf first finish refusedValue
+  answer κ = rw (dividend, divisor, not-zero (valueOf y .count) (count-pos y))

@@ -1,10 +1,14 @@
 -- The operands of two patterns of the common case: their significands are spread, and their gap is that of the fields. Assumes nothing.
 use mathlib.Core.Path.{_≡_, refl, sym, ap, _∙_}
-use Prim.Native.Nat.{ℕ, _+_, _-_, _*_, _/_, _%_, _^_, _≤_, _<_}
+use mathlib.Core.Bool.{Bool, cond}
+use Prim.Native.Nat.{ℕ, _+_, _-_, _*_, _/_, _%_, _^_, _≤_, _<_, zero-le}
 use native.Mathlib.Nat.{mul-pos, mul-div-cancel, mul-right-comm}
 use native.Mathlib.Omega.{arith}
+use borrow.Author.Tests.{le-ltb}
+use lib.Dec.{leb}
 use lib.IntN.{ℤ, pos, natAbs, _+ℤ_, _-ℤ_}
 use lib.Ieee.{size}
+use lib.Signed.{ltZ}
 use lib.Pow.{pow-add, pow-pos}
 use Rattle.digits.proofs.Common.{shift-shift}
 use Rattle.digits.proofs.Size.{size-shift, size-between}
@@ -15,7 +19,7 @@ use Rattle.operands.proofs.Lead.{lead, some-operand}
 use Rattle.laws.proofs.Gap.{cancel, sub-is}
 use Rattle.pairs.specs.Divisions.{pairDivisions, divisions}
 use Rattle.quick.specs.Common.{fieldOf, spreadOf}
-use Rattle.quick.proofs.Normals.{Fields, significandOf, valueOf, normal-class}
+use Rattle.quick.proofs.Normals.{Fields, significandOf, valueOf, count-pos, dividend, divisor}
 
 -- a significand of 53 digits, t places above the smallest one
 module _ (s t : ℕ) (top : 2 ^ 52 ≤ s) (word : s < 2 ^ 53) where
@@ -30,11 +34,22 @@ module _ (s t : ℕ) (top : 2 ^ 52 ≤ s) (word : s < 2 ^ 53) where
       let e : s * 2 ^ t * 2 ^ 63 ≡ s * 2 ^ 11 * 2 ^ (52 + t) = shift-shift s t 63 ∙ (let f : t + 63 ≡ 11 + (52 + t) = omega arith in rw f (sym (shift-shift s 11 (52 + t)))) in
       rw (place, e) (mul-div-cancel (s * 2 ^ 11) (pow-pos (52 + t)))
 
--- the fields' weights are the same, so the gap is theirs
-gap-is : (P : ℤ → Type 0) (z : ℤ) (a b : ℕ) → b ≤ a → P (pos (a - b)) → P (z +ℤ pos a -ℤ (z +ℤ pos b))
-gap-is P z a b h p = rw (cancel z (pos a) (pos b)) (sub-is P a b p (λ k l. absurd (omega arith)))
+-- two of them, d places apart
+module _ (z : ℤ) (s t a b d : ℕ) (s-top : 2 ^ 52 ≤ s) (s-word : s < 2 ^ 53) (t-top : 2 ^ 52 ≤ t) (t-word : t < 2 ^ 53) (apart : a ≡ d + b) where
+  abbrev count : ℕ
+  count = divisionsOf (s * 2 ^ 11) (t * 2 ^ 11) d
 
-module _ (x y : ℕ) (fs : Fields x y) where
-  pub divisions-are : divisions binary64 x y ≡ divisionsOf (spreadOf x) (spreadOf y) (fieldOf x - fieldOf y)
-  unfolding divisions
-  divisions-are = rw (normal-class x (omega arith) (fs .below-top), normal-class y (fs .some) (omega arith), some-operand (binary64 .smallest) (valueOf x) (?), some-operand (binary64 .smallest) (valueOf y) (?)) ?
+  spread-divisions : (n m : Bool) → pairDivisions (unpackedOf z (record { negative = n; count = s * 2 ^ a })) (unpackedOf z (record { negative = m; count = t * 2 ^ b })) ≡ count
+  unfolding unpackedOf
+  spread-divisions n m =
+      let e : 52 + a - (52 + b) ≡ d = omega arith in
+      rw (spread-lead s a s-top s-word, spread-lead t b t-top t-word, place s a s-top s-word, place t b t-top t-word, cancel z (pos (52 + a)) (pos (52 + b)))
+      (sub-is (λ (g : ℤ). cond (ltZ g (pos 0)) 0 (divisionsOf (s * 2 ^ 11) (t * 2 ^ 11) (natAbs g)) ≡ count) (52 + a) (52 + b) (rw (e, le-ltb d 0 zero-le)) (λ k l. absurd (omega arith)))
+
+pub divisions-are : (x y : ℕ) → Fields x y → divisions binary64 x y ≡ divisionsOf (spreadOf x) (spreadOf y) (fieldOf x - fieldOf y)
+unfolding divisions
+divisions-are x y fs =
+    let s = binary64 .smallest in
+    rw (dividend x y fs, divisor x y fs, some-operand s (valueOf x) (count-pos x), some-operand s (valueOf y) (count-pos y))
+    (spread-divisions s (significandOf x) (significandOf y) (fieldOf x - 1) (fieldOf y - 1) (fieldOf x - fieldOf y)
+    (omega arith) (omega arith) (omega arith) (omega arith) (omega arith) (leb (2 ^ 63) x) (leb (2 ^ 63) y))

@@ -1,6 +1,6 @@
 -- The significands with their eleven spare bits divide as the counts do. Assumes nothing.
 use mathlib.Core.Path.{_≡_, refl, sym, ap, _∙_}
-use mathlib.Core.Bool.{Bool, not, cond}
+use mathlib.Core.Bool.{Bool, true, false, not, cond}
 use Prim.Native.Nat.{ℕ, _+_, _-_, _*_, _/_, _%_, _^_, _<_}
 use native.Mathlib.Nat.{mul-right-comm, mul-pos, mul-div-cancel, mul-mod-left, mod-lt}
 use native.Mathlib.Omega.{arith}
@@ -18,7 +18,7 @@ use Rattle.division.specs.Divided.{dividedOf}
 use Rattle.quotients.proofs.Bits.{bits-low}
 use Rattle.laws.proofs.Division.{finer, finerOutcome, finish-scale}
 use Rattle.quick.specs.Common.{fieldOf, spreadOf}
-use Rattle.quick.proofs.Normals.{Fields, significandOf, valueOf, normal-class, finite-answer}
+use Rattle.quick.proofs.Normals.{Fields, significandOf, answer}
 
 -- the decision looks at the quotient's last digit only, which 32 bits keep
 up-low : (κ : Kind) (q r m : ℕ) → roundsUp κ (q % 2 ^ 32) r m ≡ roundsUp κ q r m
@@ -46,12 +46,25 @@ module _ (κ : Kind) (s : Bool) (A B d e : ℕ) (some : 0 < B) where
   count-is = rw (← shift-shift A d e) (finish-scale κ B (2 ^ e) (record { negative = s; count = A * 2 ^ d }) some (pow-pos e))
 
   same-answer : record {
-        number = 0;
-        value = patternOf binary64 (finite (by (B * 2 ^ e) (A * 2 ^ (d + e)) .value));
-        quotient = quotientBits (by (B * 2 ^ e) (A * 2 ^ (d + e)) .whole);
-      }
+    number = 0;
+    value = patternOf binary64 (finite (by (B * 2 ^ e) (A * 2 ^ (d + e)) .value));
+    quotient = quotientBits (by (B * 2 ^ e) (A * 2 ^ (d + e)) .whole);
+  }
       ≡ answerAt e (by (B * 2 ^ 11) (A * 2 ^ 11 * 2 ^ d))
   same-answer = rw (count-is, spread-is, mul-div-cancel (by B (A * 2 ^ d) .value .count) (pow-pos 11))
+
+-- what the code makes of a left-over of the divisor b in the place of the field f
+abbrev pub told : Bool → Bool → Divided → ℕ → ℕ → Remainder
+told u n D b f =
+    record {
+      number = 0;
+      value = patternOf binary64 (finite (record { negative = cond u (not n) n; count = cond u (b - D .remainder) (D .remainder) / 2 ^ 11 * 2 ^ (f - 1) }));
+      quotient = quotientBits (cond u (D .quotient + 1) (D .quotient));
+    }
+
+bits-next : (u : Bool) (q : ℕ) → quotientBits (cond u (q % 2 ^ 32 + 1) (q % 2 ^ 32)) ≡ quotientBits (cond u (q + 1) q)
+bits-next true q = omega arith
+bits-next false q = bits-low q
 
 -- what a division left of the spread significands, and whether its quotient goes up
 module _ (κ : Kind) (x y : ℕ) (fs : Fields x y) (D : Divided) (left : D ≡ dividedOf (spreadOf x) (spreadOf y) (fieldOf x - fieldOf y)) where
@@ -68,10 +81,13 @@ module _ (κ : Kind) (x y : ℕ) (fs : Fields x y) (D : Divided) (left : D ≡ d
   missing-ends = omega (arith, remainder-ends, remainder-below)
 
   pub answered : (u : Bool) → u ≡ roundsUp κ (D .quotient) (D .remainder) (spreadOf y)
-      → remainder binary64 κ x y
-      ≡ record {
-        number = 0;
-        value = patternOf binary64 (finite (record { negative = cond u (not (leb (2 ^ 63) x)) (leb (2 ^ 63) x); count = cond u (spreadOf y - D .remainder) (D .remainder) / 2 ^ 11 * 2 ^ (fieldOf y - 1) }));
-        quotient = quotientBits (cond u (D .quotient + 1) (D .quotient));
-      }
-  answered = ?
+      → remainder binary64 κ x y ≡ told u (leb (2 ^ 63) x) D (spreadOf y) (fieldOf y)
+  unfolding finishBy
+  answered u up =
+      let d = fieldOf x - fieldOf y in
+      let q = spreadOf x * 2 ^ d / spreadOf y in
+      let r = spreadOf x * 2 ^ d % spreadOf y in
+      let e : fieldOf x - 1 ≡ d + (fieldOf y - 1) = omega arith in
+      let decision : roundsUp κ q r (spreadOf y) ≡ u = sym (up ∙ rw left (up-low κ q r (spreadOf y))) in
+      answer x y fs κ
+      ∙ rw e (same-answer κ (leb (2 ^ 63) x) (significandOf x) (significandOf y) d (fieldOf y - 1) (omega arith) ∙ rw (decision, left, bits-next u q))

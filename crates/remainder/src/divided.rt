@@ -25,43 +25,62 @@ ghost use Rattle.shapes.specs.Shape.{formatOf, Sound};
 ghost use Rattle.pairs.specs.Divisions.{divisorDivisions};
 ghost use Rattle.packing.specs.Stands.{Stands, StandsValue, StandsDivisor};
 
-// A remainder's pattern, its quotient bits, and the divisions by the divisor's significand.
+// A remainder's pattern and its quotient bits.
 pub struct Residue {
     pub value: Pattern,
     pub quotient: u32,
+}
+
+// The same with the divisions by the divisor's significand.
+pub struct ResidueCounted {
+    pub residue: Residue,
     pub divisions: u32,
 }
 
-// A finite value by a divisor that has been judged: a list judges its divisor once. A zero, and a value by an infinite divisor, are
-// returned as they are.
-pub fn divide_by(shape: Shape, x: Operand, y: Divisor, kind: Kind) -> Residue
+// A finite value by a divisor that has been judged. A zero, and a value by an infinite divisor, are returned as they are.
+pub fn divide_by_counted(shape: Shape, x: Operand, y: Divisor, kind: Kind) -> ResidueCounted
     requires { ⌜ Sound (formatOf shape) × StandsValue (formatOf shape) x × StandsDivisor (formatOf shape) y ⌝ }
-    ensures value { λ r. ⌜ joined (r .value) ≡ patternOf (formatOf shape) (finite (finish kind (divisorIn (shape .smallest) y) (valueOperand (shape .smallest) x) .value)) ⌝ }
-    ensures quotient { λ r. ⌜ r .quotient ≡ quotientBits (finish kind (divisorIn (shape .smallest) y) (valueOperand (shape .smallest) x) .whole) ⌝ }
+    ensures value { λ r. ⌜ joined (r .residue .value) ≡ patternOf (formatOf shape) (finite (finish kind (divisorIn (shape .smallest) y) (valueOperand (shape .smallest) x) .value)) ⌝ }
+    ensures quotient { λ r. ⌜ r .residue .quotient ≡ quotientBits (finish kind (divisorIn (shape .smallest) y) (valueOperand (shape .smallest) x) .whole) ⌝ }
     ensures divisions { λ r. ⌜ r .divisions ≡ divisorDivisions x y ⌝ }
 {
     let Operand::Finite(a) = x else {
-        return Residue {
-            value: pack(shape, x),
-            quotient: 0,
+        return ResidueCounted {
+            residue: Residue {
+                value: pack(shape, x),
+                quotient: 0,
+            },
             divisions: 0,
         };
     };
     let Divisor::By(b) = y else {
-        return Residue {
-            value: pack(shape, x),
-            quotient: 0,
+        return ResidueCounted {
+            residue: Residue {
+                value: pack(shape, x),
+                quotient: 0,
+            },
             divisions: 0,
         };
     };
     let counted = finish_counted(kind, a, b, gap(a, b));
     let left = counted.left;
     let value = left.value;
-    Residue {
-        value: pack(shape, value),
-        quotient: quotient_bits(left.quotient),
+    ResidueCounted {
+        residue: Residue {
+            value: pack(shape, value),
+            quotient: quotient_bits(left.quotient),
+        },
         divisions: counted.divisions,
     }
+}
+
+// A list judges its divisor once, and counts nothing.
+pub fn divide_by(shape: Shape, x: Operand, y: Divisor, kind: Kind) -> Residue
+    requires { ⌜ Sound (formatOf shape) × StandsValue (formatOf shape) x × StandsDivisor (formatOf shape) y ⌝ }
+    ensures value { λ r. ⌜ joined (r .value) ≡ patternOf (formatOf shape) (finite (finish kind (divisorIn (shape .smallest) y) (valueOperand (shape .smallest) x) .value)) ⌝ }
+    ensures quotient { λ r. ⌜ r .quotient ≡ quotientBits (finish kind (divisorIn (shape .smallest) y) (valueOperand (shape .smallest) x) .whole) ⌝ }
+{
+    divide_by_counted(shape, x, y, kind).residue
 }
 
 // An answer, and the divisions by the divisor's significand.
@@ -85,14 +104,15 @@ pub fn remainder_counted(shape: Shape, x: Operand, y: Operand, kind: Kind) -> An
             divisions: 0,
         },
         Verdict::Accepted => {
-            let divided = divide_by(shape, x, divisor_of(y), kind);
-            let value = divided.value;
+            let counted = divide_by_counted(shape, x, divisor_of(y), kind);
+            let residue = counted.residue;
+            let value = residue.value;
             AnswerCounted {
                 answer: RemainderAnswer::Finished {
                     value,
-                    quotient: divided.quotient,
+                    quotient: residue.quotient,
                 },
-                divisions: divided.divisions,
+                divisions: counted.divisions,
             }
         }
     }

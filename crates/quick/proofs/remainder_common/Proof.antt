@@ -1,77 +1,100 @@
+-- `remainder_common` meets its contract: its calls, put together. Assumes nothing.
+use mathlib.Core.Path.{_≡_, sym, ap, _∙_}
+use mathlib.Core.Bool.{true, false}
+use Prim.Native.Nat.{ℕ, _+_, _-_, _*_, _/_, _%_, _^_, _≤_, _<_}
+use native.Mathlib.Nat.{le-of-lt}
+use native.Mathlib.Omega.{arith}
+use lib.Dec.{leb}
+use Rattle.definitions.specs.Format.{binary64}
+use Rattle.definitions.specs.Division.{roundsUp}
+use Rattle.definitions.specs.Remainder.{remainder}
+use Rattle.definitions.specs.declared.Kind.{Kind}
+use Rattle.division.specs.declared.Divided.{Divided}
+use Rattle.division.specs.Divided.{dividedOf}
+use Rattle.quotients.proofs.Bits.{bits-low}
+use Rattle.pairs.specs.Divisions.{divisions}
+use Rattle.quick.specs.Common.{fieldOf, spreadOf}
+use Rattle.quick.proofs.Normals.{Fields, fields}
+use Rattle.quick.proofs.Operands.{divisions-are}
+use Rattle.quick.proofs.Scaled.{remainder-below, remainder-ends, missing-ends, answered}
 use borrow.Author.Needs.{needs}
 use Rattle.quick.proofs.remainder_common.Statement.{statement}
 use Rattle.quick.proofs.remainder_common.Tie as tie
-use Rattle.quick.proofs.remainder_common.Reads as reads
-use Rattle.quick.proofs.remainder_common.Lts as lts
-use Rattle.division.proofs.divide_counted.Reads as divide-counted-reads
-use Rattle.pairs.proofs.rounds_up.Reads as rounds-up-reads
-use Rattle.quick.proofs.field_of.Reads as field-of-reads
-use Rattle.quick.proofs.spread.Reads as spread-reads
-use Rattle.quick.proofs.written.Reads as written-reads
-use Rattle.quotients.proofs.quotient_bits.Reads as quotient-bits-reads
-use Rattle.std.proofs.num.wrapping_add_u32.Reads as wrapping-add-u32-reads
 
--- src/lib.rt:73:9
 spread-requires : tie.Need-spread-requires
 spread-requires c κs = search needs
 
--- src/lib.rt:74:9
 field-of-requires : tie.Need-field-of-requires
 field-of-requires c κs = search needs
 
--- src/lib.rt:75:34
 spread-requires-2 : tie.Need-spread-requires-2
 spread-requires-2 c κs = search needs
 
--- src/lib.rt:75:55
 field-of-requires-2 : tie.Need-field-of-requires-2
 field-of-requires-2 c κs = search needs
 
--- src/lib.rt:75:55
 sub-divide-counted : tie.Need-sub-divide-counted
-sub-divide-counted c = ?
+sub-divide-counted c =
+    let s = c .before .before .before .before in
+    let fs = fields (s .args .x) (s .args .y) (s .pre) in
+    rw (c .before .before .field-of .ensures, c .field-of2 .ensures) (fs .order)
 
--- src/lib.rt:75:54
 cast-divide-counted : tie.Need-cast-divide-counted
 cast-divide-counted c = search needs
 
--- src/lib.rt:75:9
 divide-counted-requires : tie.Need-divide-counted-requires
 divide-counted-requires c κs = search needs
 
--- src/lib.rt:77:8
+-- what was divided, and what is left
+module _ (c : tie.After-divide-counted) where
+  abbrev start : tie.Start
+  start = c .before .before .before .before .before
+
+  abbrev x : ℕ
+  x = start .args .x
+
+  abbrev y : ℕ
+  y = start .args .y
+
+  abbrev left : Divided
+  left = c .divide-counted .result .divided
+
+  ordered : Fields x y
+  ordered = fields x y (start .pre)
+
+  left-is : left ≡ dividedOf (spreadOf x) (spreadOf y) (fieldOf x - fieldOf y)
+  left-is = ?
+
+  count-is : c .divide-counted .result .divisions ≡ divisions binary64 x y
+  count-is = ?
+
+  below : left .remainder < spreadOf y
+  below = remainder-below (start .args .kind) x y ordered left left-is
+
 rounds-up-requires : tie.Need-rounds-up-requires
 rounds-up-requires c κs = ?
 
--- src/lib.rt:79:39
 sub-written : tie.Need-sub-written
 sub-written c = ?
 
--- src/lib.rt:79:20
 written-requires : tie.Need-written-requires
 written-requires c κs = ?
 
--- src/lib.rt:80:37
 wrapping-add-u32-requires : tie.Need-wrapping-add-u32-requires
 wrapping-add-u32-requires c κs = search needs
 
--- src/lib.rt:80:23
 quotient-bits-requires : tie.Need-quotient-bits-requires
 quotient-bits-requires c κs = search needs
 
--- src/lib.rt:85:20
 written-requires-2 : tie.Need-written-requires-2
 written-requires-2 c κs = ?
 
--- src/lib.rt:86:23
 quotient-bits-requires-2 : tie.Need-quotient-bits-requires-2
 quotient-bits-requires-2 c κs = search needs
 
--- src/lib.rt:67:1
 returns : tie.Need-returns
 returns c = ?
 
--- src/lib.rt:67:1
 returns-2 : tie.Need-returns-2
 returns-2 c = ?
 

@@ -31,8 +31,8 @@ none c =
     let s = c .before .before .before in
     accepted-number _ _ (c .enum-told .given .1) (c .before .before .judge-pair .ensures (s .args .shape .smallest) _ _ (s .pre .1 .is) (s .pre .2 .is))
 
-divide-by-requires : tie.Need-divide-by-requires
-divide-by-requires c κs =
+divide-by-counted-requires : tie.Need-divide-by-counted-requires
+divide-by-counted-requires c κs =
     let s = c .before .before .before .before in
     let f = formatOf (s .args .shape) in
     (s .pre .0, dividend-stands f (s .pre .0) (s .args .x) (s .args .y) (s .args .kind) (none (c .before)) (s .pre .1), rw (c .divisor-of .ensures) (divisor-stands f (s .pre .0) (s .args .y) (s .pre .2)))
@@ -47,9 +47,9 @@ returns c =
 
 returns-2 : tie.Need-returns-2
 returns-2 c =
-    let d = c .before .before in
+    let d = c .before .before .before in
     let s = d .before .before .before .before in
-    let e = rw (d .divisor-of .ensures) at (c .before .divide-by .ensures) in
+    let e = rw (d .divisor-of .ensures) at (c .before .before .divide-by-counted .ensures) in
     (answered (formatOf (s .args .shape)) (s .pre .0) (s .args .x) (s .args .y) (s .args .kind) (none (d .before)) _ _ (e .0, e .1 .0), e .1 .1)
 
 pub remainder-counted-spec : {M : Type 1} → statement M
@@ -61,6 +61,6 @@ remainder-counted-spec =
     refused-value-requires
     enum-told
     divisor-of-requires
-    divide-by-requires
+    divide-by-counted-requires
     returns
     returns-2)
