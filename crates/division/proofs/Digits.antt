@@ -1,13 +1,14 @@
 -- Quotient digits that are near, with spare bits above the divisor. Assumes nothing.
 use mathlib.Core.Path.{_≡_, refl, sym, ap, _∙_}
 use Prim.Native.Nat.{ℕ, _+_, _-_, _*_, _/_, _%_, _^_, _≤_, _<_}
-use native.Mathlib.Nat.{mul-le-mul, mul-le-mul-left, mul-le-mul-right, mul-lt-mul-of-pos-right, le-of-mul-le-mul-right, lt-of-mul-lt-mul-right, div-mul-le-self, lt-div-mul-add, mul-div-mul-right, mod-eq-of-lt, pos-of-ne-zero, mul-assoc, mul-right-comm}
+use native.Mathlib.Nat.{mul-le-mul-left, mul-le-mul-right, mul-lt-mul-of-pos-right, le-of-mul-le-mul-right, lt-of-mul-lt-mul-right, div-mul-le-self, lt-div-mul-add, mul-div-mul-right, mod-eq-of-lt, pos-of-ne-zero, mul-assoc}
 use native.Mathlib.Omega.{arith}
-use lib.Pow.{pow-add, pow-pos, pow-mono, shr-shr}
-use Rattle.reciprocals.specs.Reciprocal.{inverseOf, upperOf}
+use lib.Pow.{pow-add, pow-pos, shr-shr}
+use Rattle.digits.proofs.Common.{unique-div, unique-mod}
+use Rattle.reciprocals.specs.Reciprocal.{upperOf}
 use Rattle.division.specs.Divided.{dividedOf}
 use Rattle.division.specs.declared.Divided.{Divided}
-use Rattle.reciprocals.proofs.Quotients.{unique-div, unique-mod, inverse, inverse-left}
+use Rattle.reciprocals.proofs.Quotients.{inverse, inverse-left}
 
 -- n is at most p, and x is p / m, cut: the digit n * x / p leaves less than two divisors
 module _ (p x m n : ℕ) (below : x * m ≤ p) (above : p ≤ x * m + m) (small : n ≤ p) (some : 0 < p) where
@@ -88,7 +89,7 @@ module _ (a b m r0 u l q1 r1 q2 r2 : ℕ) (ia : a ≡ r0 * 2 ^ 11) (ib : b ≡ m
       → _≡_ {A = Divided} (record { remainder = r2 * 2 ^ 11; quotient = w % 2 ^ 32 }) (dividedOf a b (u + l))
   joined-right w ew h =
       let under : r2 * 2 ^ 11 < b = omega arith in
-      rw (low-quotient w ew, unique-div (a * 2 ^ (u + l)) (q1 * 2 ^ l + q2) (r2 * 2 ^ 11) b under sum, unique-mod (a * 2 ^ (u + l)) (q1 * 2 ^ l + q2) (r2 * 2 ^ 11) b under sum)
+      rw (low-quotient w ew, unique-div (a * 2 ^ (u + l)) (q1 * 2 ^ l + q2) (r2 * 2 ^ 11) b under (sym sum), unique-mod (a * 2 ^ (u + l)) (q1 * 2 ^ l + q2) (r2 * 2 ^ 11) b under (sym sum))
 
   pub joined-more : (w z : ℕ) → w ≡ (q1 * 2 ^ l % 2 ^ 64 + q2) % 2 ^ 64 → z ≡ (w + 1) % 2 ^ 64 → m ≤ r2 → r2 < m + m
       → _≡_ {A = Divided} (record { remainder = (r2 - m) * 2 ^ 11; quotient = z % 2 ^ 32 }) (dividedOf a b (u + l))
@@ -97,8 +98,8 @@ module _ (a b m r0 u l q1 r1 q2 r2 : ℕ) (ia : a ≡ r0 * 2 ^ 11) (ib : b ≡ m
       let s : (q1 * 2 ^ l + q2 + 1) * b + (r2 - m) * 2 ^ 11 ≡ a * 2 ^ (u + l) = one-more (q1 * 2 ^ l + q2) b m r2 (a * 2 ^ (u + l)) ib g sum in
       rw (
         next-low (q1 * 2 ^ l + q2) w z (low-quotient w ew) ez,
-        unique-div (a * 2 ^ (u + l)) (q1 * 2 ^ l + q2 + 1) ((r2 - m) * 2 ^ 11) b under s,
-        unique-mod (a * 2 ^ (u + l)) (q1 * 2 ^ l + q2 + 1) ((r2 - m) * 2 ^ 11) b under s,
+        unique-div (a * 2 ^ (u + l)) (q1 * 2 ^ l + q2 + 1) ((r2 - m) * 2 ^ 11) b under (sym s),
+        unique-mod (a * 2 ^ (u + l)) (q1 * 2 ^ l + q2 + 1) ((r2 - m) * 2 ^ 11) b under (sym s),
       )
     where
       one-more : (q b m r n : ℕ) → b ≡ m * 2 ^ 11 → m ≤ r → q * b + r * 2 ^ 11 ≡ n → (q + 1) * b + (r - m) * 2 ^ 11 ≡ n

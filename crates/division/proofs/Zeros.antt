@@ -1,11 +1,11 @@
 -- A divisor that ends in zeros. Assumes nothing.
 use mathlib.Core.Path.{_≡_, refl, sym, ap, subst, _∙_}
 use Prim.Native.Nat.{ℕ, zero, suc, _+_, _-_, _*_, _/_, _%_, _^_, _≤_, _<_, _∣_}
-use native.Mathlib.Nat.{dvd-mul-left, mul-assoc, one-dvd, dvd-trans, dvd-mul-right, mul-dvd-mul-right, div-mul-cancel, le-of-dvd, lt-of-le-of-lt, lt-of-lt-of-le, lt-of-not-le, lt-irrefl, mul-div-mul-right, mul-lt-mul-of-pos-right, mod-lt, mod-eq-of-lt, pow-suc, add-sub-of-le, le-div-iff-mul-le, one-mul, div-add-mod', mul-right-comm, add-mul, le-trans, lt-trans, mod-eq-zero-of-dvd, dvd-of-mod-eq-zero}
+use native.Mathlib.Nat.{dvd-mul-left, mul-assoc, one-dvd, dvd-trans, dvd-mul-right, mul-dvd-mul-right, div-mul-cancel, le-of-dvd, lt-of-lt-of-le, lt-of-not-le, lt-irrefl, mul-lt-mul-of-pos-right, mod-lt, mod-eq-of-lt, pow-suc, add-sub-of-le, le-div-iff-mul-le, one-mul, div-add-mod', le-trans, lt-trans, mod-eq-zero-of-dvd, dvd-of-mod-eq-zero}
 use native.Mathlib.Omega.{arith}
 use lib.Count.{trailingZeros, under}
 use lib.Pow.{pow-add, pow-pos, pow-mono}
-use Rattle.reciprocals.proofs.Quotients.{unique-div, unique-mod}
+use Rattle.digits.proofs.Common.{unique-div, unique-mod}
 
 -- the trailing zeros are zeros
 under-dvd : (d t n : ℕ) → n % 2 ≡ d → 2 ^ t ∣ n / 2 → 2 ^ under d t ∣ n
@@ -74,10 +74,10 @@ module _ (b p : ℕ) (zeros : b % 2 ^ p ≡ 0) (some : 0 < b) (word : b < 2 ^ 64
         omega arith
 
     pub short-div : a * 2 ^ p / b ≡ a / (b / 2 ^ p)
-    short-div = unique-div (a * 2 ^ p) (a / (b / 2 ^ p)) (a % (b / 2 ^ p) * 2 ^ p) b short-under short-sum
+    short-div = unique-div (a * 2 ^ p) (a / (b / 2 ^ p)) (a % (b / 2 ^ p) * 2 ^ p) b short-under (sym short-sum)
 
     pub short-mod : a * 2 ^ p % b ≡ a % (b / 2 ^ p) * 2 ^ p
-    short-mod = unique-mod (a * 2 ^ p) (a / (b / 2 ^ p)) (a % (b / 2 ^ p) * 2 ^ p) b short-under short-sum
+    short-mod = unique-mod (a * 2 ^ p) (a / (b / 2 ^ p)) (a % (b / 2 ^ p) * 2 ^ p) b short-under (sym short-sum)
 
     pub short-word : a % (b / 2 ^ p) * 2 ^ p % 2 ^ 64 ≡ a % (b / 2 ^ p) * 2 ^ p
     short-word = mod-eq-of-lt (lt-trans short-under word)

@@ -20,7 +20,7 @@ use Rattle.pairs.specs.Pair.{leftOf, settledOf}
 use Rattle.pairs.proofs.Link.{link-div, link-mod}
 
 -- the decision looks at the quotient's last digit only, which 32 bits keep
-up-low : (κ : Kind) (q r m : ℕ) → roundsUp κ (q % 2 ^ 32) r m ≡ roundsUp κ q r m
+pub up-low : (κ : Kind) (q r m : ℕ) → roundsUp κ (q % 2 ^ 32) r m ≡ roundsUp κ q r m
 up-low Truncated q r m = refl
 up-low Nearest q r m = let e : q % 2 ^ 32 % 2 ≡ q % 2 = omega arith in rw e
 

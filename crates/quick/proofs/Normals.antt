@@ -1,5 +1,5 @@
 -- What two patterns of the common case stand for, and what the definition answers for them. Assumes nothing.
-use mathlib.Core.Path.{_≡_, ap, _∙_}
+use mathlib.Core.Path.{_≡_, ap}
 use mathlib.Core.Bool.{true, _&&_}
 use Prim.Native.Nat.{ℕ, _+_, _-_, _*_, _%_, _^_, _≤_, _<_}
 use native.Mathlib.Nat.{add-comm, mul-pos}
@@ -13,10 +13,11 @@ use Rattle.definitions.specs.Format.{binary64, classOf, patternOf}
 use Rattle.definitions.specs.Numbers.{first}
 use Rattle.definitions.specs.Facts.{refusedValue}
 use Rattle.definitions.specs.Division.{finishBy, finish}
-use Rattle.definitions.specs.Remainder.{quotientBits, remainderOf, remainder}
+use Rattle.definitions.specs.Remainder.{Remainder, quotientBits, remainderOf, remainder}
 use Rattle.definitions.specs.declared.Kind.{Kind}
 use Rattle.quick.specs.Common.{fieldOf, common}
 
+-- the exponent fields of the common case
 pub record Fields (x y : ℕ) : Type 0 where
   pub below-top : fieldOf x < 2047
   pub some : 0 < fieldOf y
@@ -44,6 +45,10 @@ normal-class b some low =
     simp (ne-eqb (fieldOf b) 2047 (λ h. omega arith), not-zero (fieldOf b) some)
     (ap (λ (k : ℕ). finite (record { negative = leb (2 ^ 63) b; count = k * 2 ^ (fieldOf b - 1) })) (add-comm (2 ^ 52) (b % 2 ^ 52)))
 
+-- the answer of an accepted call
+abbrev pub answerOf : Value → ℕ → Remainder
+answerOf v q = record { number = 0; value = patternOf binary64 (finite v); quotient = quotientBits q }
+
 -- both operands, and the definition's answer for them
 module _ (x y : ℕ) (fs : Fields x y) where
   pub dividend : classOf binary64 x ≡ finite (valueOf x)
@@ -52,12 +57,6 @@ module _ (x y : ℕ) (fs : Fields x y) where
   pub divisor : classOf binary64 y ≡ finite (valueOf y)
   divisor = normal-class y (fs .some) (omega arith)
 
-  pub answer : (κ : Kind)
-      → remainder binary64 κ x y
-      ≡ record {
-        number = 0;
-        value = patternOf binary64 (finite (finishBy κ (valueOf y .count) (valueOf x) .value));
-        quotient = quotientBits (finishBy κ (valueOf y .count) (valueOf x) .whole);
-      }
+  pub answer : (κ : Kind) → let r = finishBy κ (valueOf y .count) (valueOf x) in remainder binary64 κ x y ≡ answerOf (r .value) (r .whole)
   unfolding remainder remainderOf first finish refusedValue
   answer κ = rw (dividend, divisor, not-zero (valueOf y .count) (count-pos y))

@@ -1,15 +1,15 @@
 -- The operands of two patterns of the common case: their significands are spread, and their gap is that of the fields. Assumes nothing.
-use mathlib.Core.Path.{_≡_, refl, sym, ap, _∙_}
+use mathlib.Core.Path.{_≡_, sym, ap, _∙_}
 use mathlib.Core.Bool.{Bool, cond}
-use Prim.Native.Nat.{ℕ, _+_, _-_, _*_, _/_, _%_, _^_, _≤_, _<_, zero-le}
-use native.Mathlib.Nat.{mul-pos, mul-div-cancel, mul-right-comm}
+use Prim.Native.Nat.{ℕ, _+_, _-_, _*_, _^_, _≤_, _<_, zero-le}
+use native.Mathlib.Nat.{mul-div-cancel}
 use native.Mathlib.Omega.{arith}
 use borrow.Author.Tests.{le-ltb}
 use lib.Dec.{leb}
-use lib.IntN.{ℤ, pos, natAbs, _+ℤ_, _-ℤ_}
+use lib.IntN.{ℤ, pos, natAbs}
 use lib.Ieee.{size}
 use lib.Signed.{ltZ}
-use lib.Pow.{pow-add, pow-pos}
+use lib.Pow.{pow-pos}
 use Rattle.digits.proofs.Common.{shift-shift}
 use Rattle.digits.proofs.Size.{size-shift, size-between}
 use Rattle.definitions.specs.Format.{binary64}

@@ -9,7 +9,7 @@ use quotients::quotient_bits;
 use std::num::wrapping_add_u32;
 ghost use mathlib.Core.Path.{_≡_};
 ghost use mathlib.Core.Bool.{true};
-ghost use Prim.Native.Nat.{_+_, _-_, _*_, _/_, _%_, _^_, _≤_, _<_};
+ghost use Prim.Native.Nat.{_-_, _*_, _/_, _%_, _^_, _≤_, _<_};
 ghost use Rattle.definitions.specs.Class.{finite};
 ghost use Rattle.definitions.specs.Format.{binary64, patternOf};
 ghost use Rattle.definitions.specs.Remainder.{remainder};

@@ -1,6 +1,6 @@
 -- What the code finds on 64-bit words, as the guess of a quotient. Assumes nothing.
-use mathlib.Core.Path.{_≡_, refl, sym, ap, _∙_}
-use mathlib.Core.Logic.{_⊎_, inl, inr, ⊎-elim}
+use mathlib.Core.Path.{_≡_, refl, sym, _∙_}
+use mathlib.Core.Logic.{_⊎_, inl, ⊎-elim}
 use Prim.Native.Nat.{ℕ, _+_, _-_, _*_, _/_, _%_, _^_, _≤_, _<_}
 use native.Mathlib.Nat.{lt-of-mul-lt-mul-right, div-mul-le-self, mod-lt, le-refl, lt-of-lt-of-le, lt-of-le-of-lt, lt-irrefl, lt-trans}
 use lib.Arith.{digits-mod}

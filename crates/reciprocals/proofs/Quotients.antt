@@ -3,24 +3,17 @@ use mathlib.Core.Path.{_≡_, refl, sym, ap, _∙_}
 use mathlib.Core.Logic.{_⊎_, inl, inr, ⊎-elim}
 use mathlib.Core.Bool.{Bool, true, false}
 use Prim.Native.Nat.{ℕ, _+_, _-_, _*_, _/_, _%_, _^_, _≤_, _<_}
-use native.Mathlib.Nat.{mod-lt, div-add-mod', le-div-iff-mul-le, mul-le-mul-left, mul-le-mul-right, mod-eq-of-lt, add-mod-right, mod-add-mod, lt-of-mul-lt-mul-right, mul-pos, mul-comm, mul-assoc, add-mul, div-add-mod, mul-add-mod-self-left}
+use native.Mathlib.Nat.{mod-lt, div-add-mod', le-div-iff-mul-le, mul-le-mul-left, mul-le-mul-right, mod-eq-of-lt, add-mod-right, mod-add-mod, lt-of-mul-lt-mul-right, mul-pos, div-add-mod}
 use native.Mathlib.Omega.{arith}
 use borrow.Author.Tests.{ltb-true, ltb-false}
 use lib.Dec.{ltb}
-use lib.Arith.{digits-div, digits-mod}
+use Rattle.digits.proofs.Common.{unique-div, unique-mod, mod-times}
 use Rattle.reciprocals.specs.Reciprocal.{quotientOf, inverseOf, Guess}
 use Rattle.reciprocals.specs.declared.Quotient.{Quotient}
 use Rattle.reciprocals.proofs.Guess.{guess-le, too-many, rest-word, no-wrap}
 
--- what makes n with q divisors and r below one is its quotient and its remainder
-pub unique-div : (n q r d : ℕ) → r < d → q * d + r ≡ n → n / d ≡ q
-unique-div n q r d h e = ap (λ (k : ℕ). k / d) (sym e) ∙ digits-div q h
-
-pub unique-mod : (n q r d : ℕ) → r < d → q * d + r ≡ n → n % d ≡ r
-unique-mod n q r d h e = ap (λ (k : ℕ). k % d) (sym e) ∙ digits-mod q h
-
 pub unique : (n q r d : ℕ) → r < d → q * d + r ≡ n → _≡_ {A = Quotient} (record { quotient = q; remainder = r }) (quotientOf n d)
-unique n q r d h e = rw (unique-div n q r d h e, unique-mod n q r d h e)
+unique n q r d h e = rw (unique-div n q r d h (sym e), unique-mod n q r d h (sym e))
 
 pub side : (a b : ℕ) → (a < b) ⊎ (b ≤ a)
 side a b = go (ltb a b) (ltb-true a b) (ltb-false a b)
@@ -169,12 +162,6 @@ module _ (p d left n rest : ℕ) (wraps : (rest + (p + d) % 2 ^ 64) % 2 ^ 64 ≡
   pub rest-right : d ≤ left → left < 2 ^ 64 + d → rest + d ≡ left
   rest-right h l = omega arith
 
--- a factor may be reduced first
-pub mod-mul : (a b m : ℕ) → a % m * b % m ≡ a * b % m
-mod-mul a b m =
-    let e : m * (a / m * b) + a % m * b ≡ a * b = rw (← mul-assoc, ← add-mul, div-add-mod) in
-    sym (mul-add-mod-self-left m (a / m * b) (a % m * b)) ∙ ap (λ (n : ℕ). n % m) e
-
 -- a product's low word with a word added: whether it carries
 module _ (p lo f : ℕ) (wraps : f ≡ (p % 2 ^ 64 + lo) % 2 ^ 64) (low : lo < 2 ^ 64) where
   pub carry-some : f < lo → p + lo ≡ (p / 2 ^ 64 + 1) * 2 ^ 64 + f
@@ -187,4 +174,4 @@ module _ (p lo f : ℕ) (wraps : f ≡ (p % 2 ^ 64 + lo) % 2 ^ 64) (low : lo < 2
 pub next-product : (t w whole d : ℕ) → w ≡ (whole + 1) % 2 ^ 64 → t ≡ w * d % 2 ^ 64 → t ≡ (whole * d + d) % 2 ^ 64
 next-product t w whole d ew et =
     let e : (whole + 1) * d ≡ whole * d + d = omega arith in
-    et ∙ ap (λ (n : ℕ). n * d % 2 ^ 64) ew ∙ mod-mul (whole + 1) d (2 ^ 64) ∙ ap (λ (n : ℕ). n % 2 ^ 64) e
+    et ∙ ap (λ (n : ℕ). n * d % 2 ^ 64) ew ∙ mod-times (whole + 1) d (2 ^ 64) ∙ ap (λ (n : ℕ). n % 2 ^ 64) e

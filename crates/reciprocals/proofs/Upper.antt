@@ -4,9 +4,10 @@ use Prim.Native.Nat.{ℕ, zero, suc, _+_, _-_, _*_, _/_, _%_, _^_, _≤_, _<_}
 use native.Mathlib.Nat.{mod-lt, div-add-mod', div-lt-iff-lt-mul, le-div-iff-mul-le, mul-le-mul, lt-of-lt-of-le, add-comm}
 use lib.Pow.{pow-pos}
 use native.Mathlib.Omega.{arith}
+use Rattle.digits.proofs.Common.{unique-div, unique-mod}
 use Rattle.reciprocals.specs.Reciprocal.{quotientOf, inverseOf, reciprocalOf, upperOf}
 use Rattle.reciprocals.specs.declared.Quotient.{Quotient}
-use Rattle.reciprocals.proofs.Quotients.{unique, unique-div, unique-mod}
+use Rattle.reciprocals.proofs.Quotients.{unique}
 
 pub positive : (q l : ℕ) → 0 < q * l → 0 < q
 positive zero l h = omega arith
@@ -89,10 +90,10 @@ module _ (m b d : ℕ) (some : 0 < d) (room : b * d ≤ m) where
       omega (arith, div-add-mod' m d)
 
   pub off-div : (m - b * d) / d ≡ m / d - b
-  off-div = unique-div (m - b * d) (m / d - b) (m % d) d (mod-lt m some) off
+  off-div = unique-div (m - b * d) (m / d - b) (m % d) d (mod-lt m some) (sym off)
 
   pub off-mod : (m - b * d) % d ≡ m % d
-  off-mod = unique-mod (m - b * d) (m / d - b) (m % d) d (mod-lt m some) off
+  off-mod = unique-mod (m - b * d) (m / d - b) (m % d) d (mod-lt m some) (sym off)
 
 -- the upper digits and the lower ones make the whole reciprocal
 module _ (p b d u e y f : ℕ) (upper : (u + b) * d + e + 1 ≡ p) (lower : y * d + f + 1 ≡ e * b + b) (small : f < d) where
@@ -100,7 +101,7 @@ module _ (p b d u e y f : ℕ) (upper : (u + b) * d + e + 1 ≡ p) (lower : y * 
   joined =
       let g = ap (λ (n : ℕ). n * b) upper in
       let h : ((u + b) * b + y) * d + f ≡ p * b - 1 = omega arith in
-      let q = unique-div (p * b - 1) ((u + b) * b + y) f d small h in
+      let q = unique-div (p * b - 1) ((u + b) * b + y) f d small (sym h) in
       omega arith
 
 -- the reciprocal of a word, as the code makes it

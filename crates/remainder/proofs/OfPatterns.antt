@@ -1,19 +1,25 @@
 -- The remainder of operands that are those of patterns is that of the patterns, in every format. Assumes nothing.
 use mathlib.Core.Path.{_≡_, sym, _∙_}
-use mathlib.Core.Bool.{Bool, _||_}
-use Prim.Native.Nat.{ℕ}
+use mathlib.Core.Bool.{Bool, true, false, _||_}
+use Prim.Native.Nat.{ℕ, _<_}
+use native.Mathlib.Nat.{zero-add, lt-of-lt-of-le}
 use lib.IntN.{pos}
-use Rattle.definitions.specs.Format.{Format, classOf}
+use Rattle.definitions.specs.Format.{Format, binary64, classOf}
 use Rattle.definitions.specs.Facts.{denormal, toldDenormal}
 use Rattle.definitions.specs.Remainder.{remainderOf, remainder}
 use Rattle.definitions.specs.Answers.{remainderMeaning}
 use Rattle.definitions.specs.declared.Kind.{Kind}
 use Rattle.definitions.specs.declared.RemainderAnswer.{RemainderAnswer}
+use Rattle.definitions.specs.declared.RemainderAnswer.the-variants.{Finished}
 use Rattle.definitions.proofs.Facts.{told-always}
 use Rattle.operands.specs.declared.Operand.{Operand}
-use Rattle.operands.specs.Operand.{operandOf, classIn}
+use Rattle.operands.specs.Operand.{operandOf, classIn, divisorOperand}
 use Rattle.shapes.specs.declared.shape.Shape.{Shape}
 use Rattle.shapes.specs.Shape.{formatOf, shapeOf, Sound}
+use Rattle.digits.proofs.Tests.{not-zero}
+use Rattle.pairs.specs.Divisions.{divisorDivisions, divisions}
+use Rattle.quick.specs.Common.{fieldOf, common}
+use Rattle.quick.proofs.Normals.{fields}
 use Rattle.packing.proofs.Standing.{class-pattern}
 
 module _ (f : Format) (ok : Sound f) (h : Shape) (of : h ≡ shapeOf f) (x y : ℕ) (o p : Operand)
@@ -26,3 +32,22 @@ module _ (f : Format) (ok : Sound f) (h : Shape) (of : h ≡ shapeOf f) (x y : �
   -- what is told of denormal operands: the remainder never gives 6
   pub patterns-denormal : (κ : Kind) (b : Bool) → b ≡ denormal f x || denormal f y → b ≡ toldDenormal f (remainder f κ x y .number) x y
   patterns-denormal κ b e = e ∙ sym (told-always f κ x y (pos 0) .0)
+
+  pub patterns-divisions : (n : ℕ) → n ≡ divisorDivisions o (divisorOperand p) → n ≡ divisions f x y
+  unfolding divisions
+  patterns-divisions n e = e ∙ (λ i. divisorDivisions (ox i) (divisorOperand (py i)))
+
+-- the common case of binary64: its answer as the code has it, and no denormal operand
+pub common-answer : (κ : Kind) (x y v q : ℕ) → record { number = 0; value = v; quotient = q } ≡ remainder binary64 κ x y
+    → remainderMeaning (Finished (record { high = 0; low = v }) q) ≡ remainder binary64 κ x y
+unfolding remainderMeaning
+common-answer κ x y v q e = rw (zero-add v) e
+
+normal : (b : ℕ) → 0 < fieldOf b → denormal binary64 b ≡ false
+unfolding denormal
+normal b h = simp (not-zero (fieldOf b) h)
+
+pub common-denormal : (κ : Kind) (x y : ℕ) → common x y ≡ true → false ≡ toldDenormal binary64 (remainder binary64 κ x y .number) x y
+common-denormal κ x y e =
+    let fs = fields x y e in
+    sym (told-always binary64 κ x y (pos 0) .0 ∙ rw (normal x (lt-of-lt-of-le (fs .some) (fs .order)), normal y (fs .some)))

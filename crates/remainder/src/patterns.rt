@@ -1,6 +1,9 @@
 // The remainder of two patterns, of every bit pattern: take apart, divide, put together.
+use crate::divided::remainder_counted;
 use crate::divided::remainder_of;
 use definitions::Kind;
+use definitions::Pattern;
+use definitions::RemainderAnswer;
 use definitions::RemainderTold;
 use facts::patterns::any_denormal16;
 use facts::patterns::any_denormal32;
@@ -10,11 +13,14 @@ use formats::binary::Binary16;
 use formats::binary::Binary32;
 use formats::binary::Binary64;
 use formats::x87::X87;
+use quick::is_common;
+use quick::remainder_common;
 ghost use mathlib.Core.Path.{_≡_};
 ghost use Rattle.definitions.specs.Format.{binary16, binary32, binary64, x87, words};
 ghost use Rattle.definitions.specs.Facts.{toldDenormal};
 ghost use Rattle.definitions.specs.Remainder.{remainder};
 ghost use Rattle.definitions.specs.Answers.{remainderMeaning};
+ghost use Rattle.pairs.specs.Divisions.{divisions};
 
 pub fn remainder16(x: u16, y: u16, kind: Kind) -> RemainderTold
     ensures answer { λ r. ⌜ remainderMeaning (r .answer) ≡ remainder binary16 kind x y ⌝ }
@@ -40,16 +46,53 @@ pub fn remainder32(x: u32, y: u32, kind: Kind) -> RemainderTold
     }
 }
 
+// The same with the divisions by the divisor's significand.
+pub struct ToldCounted {
+    pub told: RemainderTold,
+    pub divisions: u32,
+}
+
+// The common case has a way of its own. It has no denormal operand.
+pub fn remainder64_counted(x: u64, y: u64, kind: Kind) -> ToldCounted
+    ensures answer { λ r. ⌜ remainderMeaning (r .told .answer) ≡ remainder binary64 kind x y ⌝ }
+    ensures denormal { λ r. ⌜ r .told .denormal ≡ toldDenormal binary64 (remainder binary64 kind x y .number) x y ⌝ }
+    ensures divisions { λ r. ⌜ r .divisions ≡ divisions binary64 x y ⌝ }
+{
+    if is_common(x, y) {
+        let quick = remainder_common(x, y, kind);
+        let value = Pattern {
+            high: 0,
+            low: quick.value,
+        };
+        return ToldCounted {
+            told: RemainderTold {
+                answer: RemainderAnswer::Finished {
+                    value,
+                    quotient: quick.quotient,
+                },
+                denormal: false,
+            },
+            divisions: quick.divisions,
+        };
+    }
+    let dividend = Binary64::of_pattern(x).operand;
+    let divisor = Binary64::of_pattern(y).operand;
+    let counted = remainder_counted(Binary64::shape(), dividend, divisor, kind);
+    let answer = counted.answer;
+    ToldCounted {
+        told: RemainderTold {
+            answer,
+            denormal: any_denormal64(x, y),
+        },
+        divisions: counted.divisions,
+    }
+}
+
 pub fn remainder64(x: u64, y: u64, kind: Kind) -> RemainderTold
     ensures answer { λ r. ⌜ remainderMeaning (r .answer) ≡ remainder binary64 kind x y ⌝ }
     ensures denormal { λ r. ⌜ r .denormal ≡ toldDenormal binary64 (remainder binary64 kind x y .number) x y ⌝ }
 {
-    let dividend = Binary64::of_pattern(x).operand;
-    let divisor = Binary64::of_pattern(y).operand;
-    RemainderTold {
-        answer: remainder_of(Binary64::shape(), dividend, divisor, kind),
-        denormal: any_denormal64(x, y),
-    }
+    remainder64_counted(x, y, kind).told
 }
 
 // An x87 operand is a significand and a sign and exponent word.

@@ -1,5 +1,5 @@
 -- `divide_counted` meets its contract: the tests are those of the count. Assumes nothing.
-use mathlib.Core.Path.{_≡_, sym, _∙_}
+use mathlib.Core.Path.{sym, _∙_}
 use Prim.Native.Nat.{_<_}
 use native.Mathlib.Nat.{lt-of-lt-of-le}
 use lib.Pow.{pow-pos}

@@ -5,8 +5,6 @@ use lib.Pow.{pow-pos}
 use Rattle.division.proofs.Zeros.{under-word, divisor-some, short-div, short-mod, short-word}
 use Rattle.division.proofs.divide_once.Statement.{statement}
 use Rattle.division.proofs.divide_once.Tie as tie
-use Rattle.division.proofs.divide_once.Reads as reads
-use Rattle.division.proofs.divide_once.Lts as lts
 
 shr-divisor : tie.Need-shr-divisor
 shr-divisor c = under-word (c .args .b) (c .args .places) (c .pre .1) (lt-of-lt-of-le (pow-pos 63) (c .pre .0)) (c .fits .b .fits)

@@ -3,8 +3,6 @@ use native.Mathlib.Omega.{arith}
 use Rattle.products.proofs.Halves.{halves, four}
 use Rattle.products.proofs.high.Statement.{statement}
 use Rattle.products.proofs.high.Tie as tie
-use Rattle.products.proofs.high.Reads as reads
-use Rattle.products.proofs.high.Lts as lts
 
 mul-cross : tie.Need-mul-cross
 mul-cross c = let f = four (c .args .a) (c .args .b) (omega arith) (omega arith) in omega arith

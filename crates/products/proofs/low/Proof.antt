@@ -4,8 +4,6 @@ use native.Mathlib.Omega.{arith}
 use Rattle.products.proofs.Halves.{halves, four}
 use Rattle.products.proofs.low.Statement.{statement}
 use Rattle.products.proofs.low.Tie as tie
-use Rattle.products.proofs.low.Reads as reads
-use Rattle.products.proofs.low.Lts as lts
 
 mul-lower : tie.Need-mul-lower
 mul-lower c = let f = four (c .args .a) (c .args .b) (omega arith) (omega arith) in omega arith

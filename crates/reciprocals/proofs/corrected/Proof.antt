@@ -1,15 +1,12 @@
 -- `corrected` meets its contract: the two corrections, in each of the four ways. Assumes nothing.
-use mathlib.Core.Path.{_≡_, sym, ap, _∙_}
+use mathlib.Core.Path.{_≡_, _∙_}
 use mathlib.Core.Logic.{⊎-elim}
 use borrow.Author.Needs.{needs}
 use native.Mathlib.Omega.{arith}
-use Prim.Native.Nat.{_+_, _-_, _%_, _^_, _≤_, _<_}
+use Prim.Native.Nat.{_+_, _%_, _^_}
 use Rattle.reciprocals.proofs.Quotients.{many-right, many-wrong, few-right, few-wrong}
 use Rattle.reciprocals.proofs.corrected.Statement.{statement}
 use Rattle.reciprocals.proofs.corrected.Tie as tie
-use Rattle.reciprocals.proofs.corrected.Reads as reads
-use Rattle.reciprocals.proofs.corrected.Lts as lts
-use Rattle.std.proofs.num.wrapping_add_u64.Reads as wrapping-add-u64-reads
 
 wrapping-add-u64-requires : tie.Need-wrapping-add-u64-requires
 wrapping-add-u64-requires c κs = search needs

@@ -1,22 +1,14 @@
 -- `divide_half` meets its contract. Assumes nothing.
-use mathlib.Core.Path.{_≡_, refl, sym, ap, _∙_}
+use mathlib.Core.Path.{_≡_, refl, ap, _∙_}
 use mathlib.Core.Logic.{inl, inr, ⊎-elim}
-use Prim.Native.Nat.{ℕ, _+_, _-_, _*_, _/_, _%_, _^_, _≤_, _<_}
-use native.Mathlib.Nat.{lt-trans, le-trans, lt-of-lt-of-le}
+use Prim.Native.Nat.{ℕ, _+_, _*_, _%_, _^_, _<_}
 use borrow.Author.Needs.{needs}
-use lib.Dec.{lit<, lit≤}
-use lib.Pow.{pow-pos, pow-mono, pow-lt}
+use lib.Dec.{lit≤}
+use lib.Pow.{pow-pos}
 use Rattle.reciprocals.specs.Reciprocal.{upperOf}
 use Rattle.reciprocals.proofs.Found.{found, carried, half-carry, half-fits, half-word}
 use Rattle.reciprocals.proofs.divide_half.Statement.{statement}
 use Rattle.reciprocals.proofs.divide_half.Tie as tie
-use Rattle.reciprocals.proofs.divide_half.Reads as reads
-use Rattle.reciprocals.proofs.divide_half.Lts as lts
-use Rattle.std.proofs.num.wrapping_add_u64.Reads as wrapping-add-u64-reads
-use Rattle.std.proofs.num.wrapping_sub_u64.Reads as wrapping-sub-u64-reads
-use Rattle.products.proofs.high.Reads as high-reads
-use Rattle.products.proofs.low.Reads as low-reads
-use Rattle.reciprocals.proofs.corrected.Reads as corrected-reads
 
 low-requires : tie.Need-low-requires
 low-requires c κs = search needs

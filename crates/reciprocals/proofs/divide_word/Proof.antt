@@ -1,18 +1,12 @@
 -- `divide_word` meets its contract. Assumes nothing.
-use mathlib.Core.Path.{_≡_, sym, ap, _∙_}
-use Prim.Native.Nat.{ℕ, _+_, _-_, _*_, _/_, _%_, _^_, _≤_, _<_}
+use mathlib.Core.Path.{_≡_, ap, _∙_}
+use Prim.Native.Nat.{ℕ, _+_, _*_, _/_, _%_, _^_}
 use native.Mathlib.Nat.{add-zero}
 use borrow.Author.Needs.{needs}
 use lib.Pow.{pow-pos}
 use Rattle.reciprocals.proofs.Found.{plain-fits, bare-many, bare-few}
 use Rattle.reciprocals.proofs.divide_word.Statement.{statement}
 use Rattle.reciprocals.proofs.divide_word.Tie as tie
-use Rattle.reciprocals.proofs.divide_word.Reads as reads
-use Rattle.reciprocals.proofs.divide_word.Lts as lts
-use Rattle.std.proofs.num.wrapping_add_u64.Reads as wrapping-add-u64-reads
-use Rattle.std.proofs.num.wrapping_sub_u64.Reads as wrapping-sub-u64-reads
-use Rattle.products.proofs.high.Reads as high-reads
-use Rattle.products.proofs.low.Reads as low-reads
 
 low-requires : tie.Need-low-requires
 low-requires c κs = search needs

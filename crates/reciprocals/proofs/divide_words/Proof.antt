@@ -1,7 +1,7 @@
 -- `divide_words` meets its contract. Assumes nothing.
 use mathlib.Core.Path.{_≡_, sym, ap, _∙_}
 use mathlib.Core.Logic.{inl, inr, ⊎-elim}
-use Prim.Native.Nat.{ℕ, _+_, _-_, _*_, _/_, _%_, _^_, _≤_, _<_}
+use Prim.Native.Nat.{ℕ, _+_, _*_, _%_, _^_}
 use native.Mathlib.Nat.{le-refl}
 use lib.Arith.{digits-mod}
 use lib.Pow.{pow-pos}
@@ -9,13 +9,6 @@ use borrow.Author.Needs.{needs}
 use Rattle.reciprocals.proofs.Found.{found, carried-up, plain-fits, carry-fits}
 use Rattle.reciprocals.proofs.divide_words.Statement.{statement}
 use Rattle.reciprocals.proofs.divide_words.Tie as tie
-use Rattle.reciprocals.proofs.divide_words.Reads as reads
-use Rattle.reciprocals.proofs.divide_words.Lts as lts
-use Rattle.std.proofs.num.wrapping_add_u64.Reads as wrapping-add-u64-reads
-use Rattle.std.proofs.num.wrapping_sub_u64.Reads as wrapping-sub-u64-reads
-use Rattle.products.proofs.high.Reads as high-reads
-use Rattle.products.proofs.low.Reads as low-reads
-use Rattle.reciprocals.proofs.corrected.Reads as corrected-reads
 
 low-requires : tie.Need-low-requires
 low-requires c κs = search needs

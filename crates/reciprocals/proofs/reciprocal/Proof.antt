@@ -1,6 +1,6 @@
 -- `reciprocal` meets its contract. Assumes nothing.
 use mathlib.Core.Path.{_≡_, ap, _∙_}
-use Prim.Native.Nat.{ℕ, _+_, _-_, _*_, _/_, _%_, _^_, _≤_, _<_}
+use Prim.Native.Nat.{ℕ, _+_, _-_, _*_, _/_, _%_, _^_, _<_}
 use native.Mathlib.Nat.{mod-lt}
 use native.Mathlib.Omega.{arith}
 use borrow.Author.Needs.{needs}
@@ -9,10 +9,6 @@ use Rattle.reciprocals.specs.declared.Quotient.{Quotient}
 use Rattle.reciprocals.proofs.Upper.{some-d, upper-small, upper-is, lower-small, whole-is}
 use Rattle.reciprocals.proofs.reciprocal.Statement.{statement}
 use Rattle.reciprocals.proofs.reciprocal.Tie as tie
-use Rattle.reciprocals.proofs.reciprocal.Reads as reads
-use Rattle.reciprocals.proofs.reciprocal.Lts as lts
-use Rattle.reciprocals.proofs.divide_half.Reads as divide-half-reads
-use Rattle.reciprocals.proofs.upper_half.Reads as upper-half-reads
 
 upper-half-requires : tie.Need-upper-half-requires
 upper-half-requires c κs = search needs

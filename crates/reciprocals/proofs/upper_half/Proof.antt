@@ -1,12 +1,10 @@
 -- `upper_half` meets its contract. Assumes nothing.
-use Prim.Native.Nat.{ℕ, _+_, _-_, _*_, _/_, _%_, _^_, _≤_, _<_}
+use Prim.Native.Nat.{_%_, _^_}
 use native.Mathlib.Omega.{arith}
 use borrow.Author.Needs.{needs}
-use Rattle.reciprocals.proofs.Upper.{guess-small, rest-small, taken-small, positive, upper-lowered, upper-kept}
+use Rattle.reciprocals.proofs.Upper.{rest-small, taken-small, positive, upper-lowered, upper-kept}
 use Rattle.reciprocals.proofs.upper_half.Statement.{statement}
 use Rattle.reciprocals.proofs.upper_half.Tie as tie
-use Rattle.reciprocals.proofs.upper_half.Reads as reads
-use Rattle.reciprocals.proofs.upper_half.Lts as lts
 
 sub-lacks : tie.Need-sub-lacks
 sub-lacks c = search needs

@@ -8,11 +8,6 @@ use Rattle.division.proofs.Digits.{near-le, near-lt, scaled, unwrapped}
 use borrow.Author.Needs.{needs}
 use Rattle.division.proofs.near.digit.Statement.{statement}
 use Rattle.division.proofs.near.digit.Tie as tie
-use Rattle.division.proofs.near.digit.Reads as reads
-use Rattle.division.proofs.near.digit.Lts as lts
-use Rattle.std.proofs.num.wrapping_sub_u64.Reads as wrapping-sub-u64-reads
-use Rattle.products.proofs.high.Reads as high-reads
-use Rattle.products.proofs.low.Reads as low-reads
 
 shl-high : tie.Need-shl-high
 shl-high c = search needs

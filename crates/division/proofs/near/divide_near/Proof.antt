@@ -13,11 +13,6 @@ use Rattle.reciprocals.proofs.Upper.{upper-small, upper-is}
 use borrow.Author.Needs.{needs}
 use Rattle.division.proofs.near.divide_near.Statement.{statement}
 use Rattle.division.proofs.near.divide_near.Tie as tie
-use Rattle.division.proofs.near.divide_near.Reads as reads
-use Rattle.division.proofs.near.divide_near.Lts as lts
-use Rattle.std.proofs.num.wrapping_add_u64.Reads as wrapping-add-u64-reads
-use Rattle.division.proofs.near.digit.Reads as digit-reads
-use Rattle.reciprocals.proofs.upper_half.Reads as upper-half-reads
 
 upper-half-requires : tie.Need-upper-half-requires
 upper-half-requires c κs = search needs

@@ -1,19 +1,14 @@
 -- `divide_turns` meets its contract. The loop's invariant: what it holds is the answer for the places that are not left.
 -- Assumes nothing.
-use mathlib.Core.Path.{_≡_, refl, sym, ap, _∙_}
-use Prim.Native.Nat.{ℕ, _+_, _-_, _*_, _/_, _%_, _^_, _≤_, _<_}
+use mathlib.Core.Path.{_≡_, sym, ap, _∙_}
+use Prim.Native.Nat.{ℕ, _+_, _-_, _*_, _/_, _%_, _^_, _≤_}
 use native.Mathlib.Nat.{mod-lt, mod-eq-of-lt, lt-of-lt-of-le}
 use native.Mathlib.Omega.{arith}
 use lib.Pow.{pow-pos}
 use Rattle.reciprocals.specs.declared.Quotient.{Quotient}
-use Rattle.division.proofs.Places.{turn-mod, turn-low, turn-small, two-words, upper-under, first-small, next-word, low-half}
+use Rattle.division.proofs.Places.{turn-mod, turn-low, two-words, upper-under, first-small, next-word, low-half}
 use Rattle.division.proofs.turns.divide_turns.Statement.{statement}
 use Rattle.division.proofs.turns.divide_turns.Tie as tie
-use Rattle.division.proofs.turns.divide_turns.Reads as reads
-use Rattle.division.proofs.turns.divide_turns.Lts as lts
-use Rattle.reciprocals.proofs.divide_word.Reads as divide-word-reads
-use Rattle.reciprocals.proofs.divide_words.Reads as divide-words-reads
-use Rattle.reciprocals.proofs.reciprocal.Reads as reciprocal-reads
 
 abbrev Inv-loop : tie.InvT-loop
 Inv-loop a b places v shift remainder₀ quotient₀ divisions₀ left₀ remainder quotient divisions left =

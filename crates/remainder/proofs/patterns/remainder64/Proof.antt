@@ -1,36 +1,13 @@
--- `remainder64` meets its contract: the shape is that of binary64, and the operands are those of the patterns. Assumes nothing.
-use Rattle.definitions.specs.Format.{binary64}
-use Rattle.shapes.proofs.Sounds.{sound64}
-use Rattle.remainder.proofs.OfPatterns.{patterns-remainder, patterns-denormal}
-use Rattle.packing.proofs.Standing.{patterns-stand}
+-- `remainder64` meets its contract: it is what `remainder64_counted` tells. Assumes nothing.
 use borrow.Author.Needs.{needs}
 use Rattle.remainder.proofs.patterns.remainder64.Statement.{statement}
 use Rattle.remainder.proofs.patterns.remainder64.Tie as tie
 
-of-pattern-requires : tie.Need-of-pattern-requires
-of-pattern-requires c κs = search needs
-
-of-pattern-requires-2 : tie.Need-of-pattern-requires-2
-of-pattern-requires-2 c κs = search needs
-
-shape-requires : tie.Need-shape-requires
-shape-requires c κs = search needs
-
-remainder-of-requires : tie.Need-remainder-of-requires
-remainder-of-requires c κs = patterns-stand binary64 sound64 _ (c .shape .ensures) _ _ _ _ (c .before .before .of-pattern .ensures) (c .before .of-pattern2 .ensures)
-
-any-denormal64-requires : tie.Need-any-denormal64-requires
-any-denormal64-requires c κs = search needs
+remainder64-counted-requires : tie.Need-remainder64-counted-requires
+remainder64-counted-requires c κs = search needs
 
 returns : tie.Need-returns
-returns c =
-    let d = c .before .before in
-    let x = d .before .before .of-pattern .ensures in
-    let y = d .before .of-pattern2 .ensures in (
-      patterns-remainder binary64 sound64 _ (d .shape .ensures) _ _ _ _ x y _ (c .before .remainder-of .result) (c .before .remainder-of .ensures),
-      patterns-denormal binary64 sound64 _ (d .shape .ensures) _ _ _ _ x y _ (c .any-denormal64 .result) (c .any-denormal64 .ensures),
-    )
+returns c = let e = c .before .remainder64-counted .ensures in (e .0, e .1 .0)
 
 pub remainder64-spec : {M : Type 1} → statement M
-remainder64-spec =
-    tie.close (tie.spec of-pattern-requires of-pattern-requires-2 shape-requires remainder-of-requires any-denormal64-requires returns)
+remainder64-spec = tie.close (tie.spec remainder64-counted-requires returns)

@@ -1,0 +1,68 @@
+-- `remainder64_counted` meets its contract: in the common case both operands are normal; in any other the shape is that of binary64, and the
+-- operands are those of the patterns. Assumes nothing.
+use mathlib.Core.Path.{_≡_, sym, _∙_}
+use Rattle.definitions.specs.Format.{binary64}
+use Rattle.definitions.specs.Answers.{remainderMeaning}
+use Rattle.shapes.proofs.Sounds.{sound64}
+use Rattle.remainder.proofs.OfPatterns.{patterns-remainder, patterns-denormal, patterns-divisions, common-answer, common-denormal}
+use Rattle.packing.proofs.Standing.{patterns-stand}
+use borrow.Author.Needs.{needs}
+use Rattle.remainder.proofs.patterns.remainder64_counted.Statement.{statement}
+use Rattle.remainder.proofs.patterns.remainder64_counted.Tie as tie
+
+is-common-requires : tie.Need-is-common-requires
+is-common-requires c κs = search needs
+
+remainder-common-requires : tie.Need-remainder-common-requires
+remainder-common-requires c κs = sym (c .before .is-common .ensures) ∙ c .if1 .taken
+
+returns : tie.Need-returns
+returns c =
+    let q = c .remainder-common in
+    let t = c .before in
+    let s = t .before .before in
+    let a = s .args in
+    let is = sym (t .before .is-common .ensures) ∙ t .if1 .taken in
+    (common-answer (a .kind) (a .x) (a .y) (q .result .value) (q .result .quotient) (q .ensures .0), (common-denormal (a .kind) (a .x) (a .y) is, q .ensures .1))
+
+of-pattern-requires : tie.Need-of-pattern-requires
+of-pattern-requires c κs = search needs
+
+of-pattern-requires-2 : tie.Need-of-pattern-requires-2
+of-pattern-requires-2 c κs = search needs
+
+shape-requires : tie.Need-shape-requires
+shape-requires c κs = search needs
+
+remainder-counted-requires : tie.Need-remainder-counted-requires
+remainder-counted-requires c κs = patterns-stand binary64 sound64 _ (c .shape .ensures) _ _ _ _ (c .before .before .of-pattern .ensures) (c .before .of-pattern2 .ensures)
+
+any-denormal64-requires : tie.Need-any-denormal64-requires
+any-denormal64-requires c κs = search needs
+
+returns-2 : tie.Need-returns-2
+returns-2 c =
+    let r = c .before .remainder-counted in
+    let d = c .before .before in
+    let x = d .before .before .of-pattern .ensures in
+    let y = d .before .of-pattern2 .ensures in (
+      patterns-remainder binary64 sound64 _ (d .shape .ensures) _ _ _ _ x y _ (r .result .answer) (r .ensures .0),
+      (
+        patterns-denormal binary64 sound64 _ (d .shape .ensures) _ _ _ _ x y _ (c .any-denormal64 .result) (c .any-denormal64 .ensures),
+        patterns-divisions binary64 sound64 _ (d .shape .ensures) _ _ _ _ x y _ (r .ensures .1),
+      ),
+    )
+
+pub remainder64-counted-spec : {M : Type 1} → statement M
+remainder64-counted-spec =
+    tie.close
+    (tie.spec
+    is-common-requires
+    remainder-common-requires
+    returns
+    of-pattern-requires
+    of-pattern-requires-2
+    shape-requires
+    remainder-counted-requires
+    any-denormal64-requires
+    returns-2)
