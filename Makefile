@@ -121,7 +121,7 @@ peers:
 	$(call need,musl-gcc $(if $(wildcard /usr/include/mpfr.h),,mpfr.h),musl-tools libmpfr-dev)
 
 meters:
-	$(call need,valgrind,valgrind)
+	$(call need,valgrind $(if $(wildcard $(musl)),,musl) $(if $(wildcard /usr/include/*/sleef.h),,sleef.h),valgrind musl-dev libsleef-dev)
 
 # ---- the archive
 
@@ -272,16 +272,43 @@ altered: header machine documents examples install-check
 
 .PHONY: bench-calls bench-lines
 
+musl = /usr/lib/x86_64-linux-musl/libc.a
+
 # an object and not a whole Rust archive: that one brings a fmod of its own, which would be linked in the C library's place
 $(out)/shift.o: bench/shift.rs | $(out)
 	$(RUSTC) -O -C panic=abort --crate-type staticlib --emit obj $< -o $@
 
-$(out)/bench: bench/bench.c $(out)/shift.o include/zukemoriha.h $(linked)
-	$(CC) $(cflags) $(unbuilt) $< $(out)/shift.o $(linked) -lm -o $@
+# here that fmod is the peer: it is joined to the one function that calls it, and hidden
+$(out)/percent.o: bench/percent.rs | $(out)
+	$(RUSTC) -O -C panic=abort --crate-type staticlib $< -o $(out)/libpercent.a
+	ld -r -u rust_percent $(out)/libpercent.a -o $(out)/percent-open.o
+	objcopy --keep-global-symbol=rust_percent $(out)/percent-open.o $@
 
+# musl's functions, under names that the C library does not have
+$(out)/musl.o: | $(out) meters
+	cd $(out) && ar x $(musl) fmod.lo remainder.lo remquo.lo && ld -r fmod.lo remainder.lo remquo.lo -o musl-open.o
+	objcopy --redefine-sym fmod=musl_fmod --redefine-sym remainder=musl_remainder \
+	    --keep-global-symbol=musl_fmod --keep-global-symbol=musl_remainder $(out)/musl-open.o $@
+
+$(out)/sleef4.o: lanes = -mavx -DLANES=4
+$(out)/sleef8.o: lanes = -mavx512f -DLANES=8
+$(out)/sleef4.o $(out)/sleef8.o: bench/sleef.c | $(out) meters
+	$(CC) $(cflags) $(lanes) -c $< -o $@
+
+peer_objects = $(addprefix $(out)/,shift.o percent.o musl.o sleef4.o sleef8.o)
+
+$(out)/bench: bench/bench.c bench/peers.c bench/peers.h include/zukemoriha.h $(peer_objects) $(linked)
+	$(CC) $(cflags) bench/bench.c bench/peers.c $(peer_objects) $(linked) -lsleef -ldl -o $@
+
+# on this machine's C library, then on the newest one, if it can be had
 bench-calls: $(out)/bench | meters
+	@sed -n 's/^model name[^:]*: //p' /proc/cpuinfo | sed -n 1p; $(CC) --version | sed -n 1p; $(RUSTC) --version
+	@dpkg-query -W -f '$${Package} $${Version}\n' musl-dev libsleef-dev
 	$(out)/bench
-	sh bench/callgrind.sh $(out)/bench
+	sh bench/callgrind.sh $(out)/callgrind $(out)/bench
+	@newest=$$(sh bench/newest-libc.sh target/newest-libc) || { echo 'the tables above are all: none of the newest C library'; exit 0; }; \
+	set -x; $$newest $(out)/bench; \
+	sh bench/callgrind.sh $(out)/callgrind $$newest $(out)/bench || echo 'valgrind cannot run the newest C library'
 
 bench-lines: | $(out)
 	rt check remainder_lines

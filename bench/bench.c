@@ -1,117 +1,58 @@
 /*
- * Truncated binary64 remainders, near (D from 0 to 63) and far (D from 1000 to 2000): the library against the C library's fmod, a loop of
- * the processor's FPREM, and shifting and subtracting one bit at a time (bench/shift.rs). All peers get the same operands in one run, in
- * turns, and what is printed is the median of the rounds; every answer is compared before anything is timed.
+ * binary64 remainders of both kinds: the library against the peers of peers.c, one call a pair and in lists by one divisor. The rows are
+ * gaps D of the exponents of dividend and divisor, and angles by 360. All peers get the same operands in one run, in turns. A time is the
+ * median of the rounds, and a ratio the median of each round's: the library's time by the peer's, below 1 where the library is quicker.
+ * Every answer is compared before anything is timed, and a difference ends the run with status 1; SLEEF's are counted.
  *
- *   bench                      times and ratios
- *   bench count PEER GAP N     N calls and nothing else, for bench/callgrind.sh; GAP is near or far
- *   bench peers                the names of the peers
+ *   bench          the comparison, times and ratios, the worst cases
+ *   bench count    one pass of each row and peer, whose name it prints, for callgrind.sh
  */
 #define _POSIX_C_SOURCE 199309L
+#include "peers.h"
 #include "zukemoriha.h"
 
-#include <math.h>
 #include <stdio.h>
 #include <stdlib.h>
 #include <string.h>
 #include <time.h>
 
-uint8_t shift_rem64_branching(uint64_t x, uint64_t y, uint64_t *value, uint32_t *quotient);
-uint8_t shift_rem64_branch_free(uint64_t x, uint64_t y, uint64_t *value, uint32_t *quotient);
-size_t shift_fold64_branching(const uint64_t *x, size_t n, uint64_t *results, uint8_t *quotients, uint64_t y);
-size_t shift_fold64_branch_free(const uint64_t *x, size_t n, uint64_t *results, uint8_t *quotients, uint64_t y);
+/* WORST_ROUNDS is at most ROUNDS: both share their room. */
+enum { N = 4096, REPEATS = 128, ROUNDS = 31, WORST_ROUNDS = 5 };
 
-enum { N = 4096, ROUNDS = 15, PEERS = 5 };
-
-/* The operands. A list has one divisor, the last one of y. */
+/* A list has one divisor, the last one of y. */
 struct operands {
+    size_t n;
     uint64_t x[N], y[N];
 };
 
 struct answers {
     uint64_t values[N];
-    uint8_t quotients[N];
+    uint32_t quotients[N];
+    uint8_t bytes[N];
 };
 
-/* One remainder a call. */
-
-static uint64_t one_zukemoriha(uint64_t x, uint64_t y) {
-    uint64_t value = 0;
-    uint32_t quotient;
-    zk_rem64(x, y, ZK_TRUNCATED, &value, &quotient);
-    return value;
-}
-
-static uint64_t one_fmod(uint64_t x, uint64_t y) {
-    return zk_pattern_of_double(fmod(zk_double_of_pattern(x), zk_double_of_pattern(y)));
-}
-
-static uint64_t one_fprem(uint64_t x, uint64_t y) {
-#if defined(__x86_64__)
-    double a = zk_double_of_pattern(x), b = zk_double_of_pattern(y), r;
-    /* C2 is bit 10 of the status word, bit 2 of its upper byte */
-    __asm__ volatile("fldl %2\n\tfldl %1\n1:\tfprem\n\tfnstsw %%ax\n\ttestb $4, %%ah\n\tjnz 1b\n\tfstpl %0\n\tfstp %%st(0)"
-                     : "=m"(r)
-                     : "m"(a), "m"(b)
-                     : "ax", "cc", "st", "st(1)");
-    return zk_pattern_of_double(r);
-#else
-    return one_fmod(x, y);
-#endif
-}
-
-static uint64_t one_branching(uint64_t x, uint64_t y) {
-    uint64_t value = 0;
-    uint32_t quotient;
-    shift_rem64_branching(x, y, &value, &quotient);
-    return value;
-}
-
-static uint64_t one_branch_free(uint64_t x, uint64_t y) {
-    uint64_t value = 0;
-    uint32_t quotient;
-    shift_rem64_branch_free(x, y, &value, &quotient);
-    return value;
-}
-
-/* A whole list a call; fmod and FPREM give no quotients. */
-
-static void list_zukemoriha(const struct operands *o, struct answers *a) {
-    size_t marked;
-    zk_fold64(o->x, N, a->values, N, a->quotients, N, o->y[N - 1], ZK_TRUNCATED, &marked);
-}
-
-static void list_fmod(const struct operands *o, struct answers *a) {
-    size_t i;
-    for (i = 0; i < N; i++)
-        a->values[i] = one_fmod(o->x[i], o->y[N - 1]);
-}
-
-static void list_fprem(const struct operands *o, struct answers *a) {
-    size_t i;
-    for (i = 0; i < N; i++)
-        a->values[i] = one_fprem(o->x[i], o->y[N - 1]);
-}
-
-static void list_branching(const struct operands *o, struct answers *a) {
-    shift_fold64_branching(o->x, N, a->values, a->quotients, o->y[N - 1]);
-}
-
-static void list_branch_free(const struct operands *o, struct answers *a) {
-    shift_fold64_branch_free(o->x, N, a->values, a->quotients, o->y[N - 1]);
-}
-
-struct peer {
+/* The divisor's exponent field leaves the gap its room above. */
+struct row {
     const char *name;
-    uint64_t (*one)(uint64_t, uint64_t);
-    void (*list)(const struct operands *, struct answers *);
+    unsigned least, most, field;
 };
 
-static const struct peer peers[PEERS] = {
-    {"zukemoriha", one_zukemoriha, list_zukemoriha}, {"fmod", one_fmod, list_fmod},
-    {"fprem", one_fprem, list_fprem},                {"shift-branching", one_branching, list_branching},
-    {"shift-branch-free", one_branch_free, list_branch_free},
+static const struct row rows[] = {
+    {"as used", 0, 0, 0}, {"0..10", 0, 10, 1000}, {"0..63", 0, 63, 1000}, {"64..319", 64, 319, 1000}, {"1000..2045", 1000, 2045, 1},
 };
+
+enum { ROWS = sizeof rows / sizeof *rows };
+
+/* How many elements a call gets: 1 is one remainder a call, the others are lists. */
+static const size_t lengths[] = {1, N, 32, 8};
+
+enum { LENGTHS = sizeof lengths / sizeof *lengths };
+
+static const uint32_t kinds[] = {ZK_TRUNCATED, ZK_NEAREST};
+
+static const char *kind_name(uint32_t kind) {
+    return kind == ZK_TRUNCATED ? "truncated" : "nearest";
+}
 
 static uint64_t draw(uint64_t *state) {
     uint64_t z = *state += UINT64_C(0x9E3779B97F4A7C15);
@@ -120,23 +61,165 @@ static uint64_t draw(uint64_t *state) {
     return z ^ z >> 31;
 }
 
-/* Normal numbers with random signs and fractions. The divisor's exponent field leaves the gap its room above. */
-static void fill(struct operands *o, int far) {
+/* Half degrees up to four turns either way, by one turn: 725.5 by 360 is one of them. */
+static void fill_angles(struct operands *o) {
     uint64_t state = 1;
-    int i;
-    for (i = 0; i < N; i++) {
-        uint64_t gap = far ? 1000 + draw(&state) % 1001 : draw(&state) % 64;
-        uint64_t field = far ? 20 : 1000;
-        o->y[i] = (draw(&state) & UINT64_C(0x800FFFFFFFFFFFFF)) | field << 52;
-        o->x[i] = (draw(&state) & UINT64_C(0x800FFFFFFFFFFFFF)) | (field + gap) << 52;
+    size_t i;
+    for (i = 0; i < o->n; i++) {
+        double angle = (double)(draw(&state) % 2881) / 2;
+        o->x[i] = zk_pattern_of_double(draw(&state) & 1 ? angle : -angle);
+        o->y[i] = zk_pattern_of_double(360);
     }
 }
 
-/* The name that callgrind is told to collect in. */
-__attribute__((noinline)) void measured(uint64_t (*one)(uint64_t, uint64_t), const struct operands *o, long calls, uint64_t *sum) {
-    long i;
-    for (i = 0; i < calls; i++)
-        *sum += one(o->x[i % N], o->y[i % N]);
+/* Normal numbers with random signs and fractions. */
+static void fill_gaps(struct operands *o, const struct row *row) {
+    const uint64_t others = UINT64_C(0x800FFFFFFFFFFFFF);
+    uint64_t state = 1, field = row->field;
+    size_t i;
+    for (i = 0; i < o->n; i++) {
+        uint64_t gap = row->least + draw(&state) % (row->most - row->least + 1);
+        o->y[i] = (draw(&state) & others) | field << 52;
+        o->x[i] = (draw(&state) & others) | (field + gap) << 52;
+    }
+}
+
+static void fill(struct operands *o, const struct row *row) {
+    o->n = N;
+    if (row->field == 0)
+        fill_angles(o);
+    else
+        fill_gaps(o, row);
+}
+
+/*
+ * What may be slowest: a pair at the widest gap of normal numbers, 2045, or by a denormal, repeated; and pairs like these that are all
+ * different, since a processor learns the branches of a repeated one.
+ */
+static const uint64_t worst_x[] = {UINT64_C(0x7FE0000000000000), UINT64_C(0x7FE5555555555555), UINT64_C(0x7FEFFFFFFFFFFFFF)};
+static const uint64_t worst_y[] = {UINT64_C(0x0010000000000000), UINT64_C(0x0010000000000001), UINT64_C(0x001FFFFFFFFFFFFF),
+                                   UINT64_C(0x000FFFFFFFFFFFFF), UINT64_C(0x0008000000000001), UINT64_C(0x0000000000000003),
+                                   UINT64_C(0x0000000000000001)};
+
+enum { WORST_X = sizeof worst_x / sizeof *worst_x, WORST_Y = sizeof worst_y / sizeof *worst_y };
+enum { PAIRS = WORST_X * WORST_Y, WIDEST = PAIRS, DENORMALS, SETS };
+
+static void fill_pair(struct operands *o, int pair) {
+    size_t i;
+    for (i = 0; i < o->n; i++) {
+        o->x[i] = worst_x[pair / WORST_Y];
+        o->y[i] = worst_y[pair % WORST_Y];
+    }
+}
+
+static void fill_worst(struct operands *o, int set) {
+    static const struct row widest = {"", 2045, 2045, 1};
+    uint64_t state = 2, digits;
+    size_t i;
+    o->n = set < PAIRS ? REPEATS : N;
+    if (set < PAIRS)
+        fill_pair(o, set);
+    else
+        fill_gaps(o, &widest);
+    if (set == DENORMALS)
+        for (i = 0; i < o->n; i++) {
+            digits = 2 + draw(&state) % 51;
+            o->y[i] = draw(&state) >> (64 - digits) | 1;
+        }
+}
+
+static void print_set(int set) {
+    if (set < PAIRS)
+        printf("%016llX by %016llX, repeated\n", (unsigned long long)worst_x[set / WORST_Y], (unsigned long long)worst_y[set % WORST_Y]);
+    else
+        printf("different pairs%s\n", set == WIDEST ? " of D 2045" : ", by denormals");
+}
+
+static int takes(const struct peer *p, size_t length) {
+    return length > 1 || p->each;
+}
+
+/* One pass over all operands. It is also the name that callgrind is told to collect in. */
+__attribute__((noinline)) void measured(const struct peer *p, const struct operands *o, size_t length, struct answers *a) {
+    size_t i;
+    if (length == 1)
+        p->each(o->x, o->y, o->n, a->values, a->quotients);
+    else
+        for (i = 0; i < o->n; i += length)
+            p->list(o->x + i, length, o->y[o->n - 1], a->values + i, a->bytes + i);
+}
+
+/* What is expected of a pass: the library, one call a pair. */
+static void expect(uint32_t kind, const struct operands *o, size_t length, struct answers *a) {
+    size_t i;
+    for (i = 0; i < o->n; i++) {
+        zk_rem64(o->x[i], o->y[length == 1 ? i : o->n - 1], kind, &a->values[i], &a->quotients[i]);
+        a->bytes[i] = a->quotients[i] % 8;
+    }
+}
+
+static int differs(const struct peer *p, size_t length, const struct answers *expected, const struct answers *a, size_t i) {
+    if (a->values[i] != expected->values[i])
+        return 1;
+    return p->quotients && (length == 1 ? a->quotients[i] != expected->quotients[i] : a->bytes[i] != expected->bytes[i]);
+}
+
+struct tally {
+    long compared, wrong, nans;
+};
+
+/* The answers of a pass that are not as expected, and how many of these are NaNs; the first one of an exact peer is printed. */
+static struct tally differences(const struct peer *p, uint32_t kind, const struct operands *o, size_t length) {
+    static struct answers expected, a;
+    struct tally t = {(long)o->n, 0, 0};
+    size_t i;
+    expect(kind, o, length, &expected);
+    memset(&a, 0, sizeof a);
+    measured(p, o, length, &a);
+    for (i = 0; i < o->n; i++)
+        if (differs(p, length, &expected, &a, i)) {
+            if (t.wrong++ == 0 && p->exact)
+                printf("%s, %s, differs at %016llX by %016llX: %016llX, zukemoriha %016llX\n", p->name, kind_name(kind),
+                       (unsigned long long)o->x[i], (unsigned long long)o->y[length == 1 ? i : o->n - 1], (unsigned long long)a.values[i],
+                       (unsigned long long)expected.values[i]);
+            t.nans += (a.values[i] & INT64_MAX) > UINT64_C(0x7FF0000000000000);
+        }
+    return t;
+}
+
+/* All peers. The wrong answers of those that are not exact are told for the longest lists. */
+static void compare(uint32_t kind, const struct operands *o, const char *row, size_t length, struct tally *all) {
+    int p, count;
+    const struct peer *peers = peers_of(kind, &count);
+    for (p = 0; p < count; p++)
+        if (takes(&peers[p], length)) {
+            struct tally t = differences(&peers[p], kind, o, length);
+            all->compared += t.compared;
+            if (peers[p].exact)
+                all->wrong += t.wrong;
+            else if (length == N)
+                printf("%s, %s, %s: %ld of %ld answers are wrong, %ld of them NaNs\n", peers[p].name, kind_name(kind), row, t.wrong,
+                       t.compared, t.nans);
+        }
+}
+
+static int agree(void) {
+    static struct operands o;
+    struct tally all = {0, 0, 0};
+    int k, l, r, set;
+    for (k = 0; k < 2; k++) {
+        for (r = 0; r < ROWS; r++) {
+            fill(&o, &rows[r]);
+            for (l = 0; l < LENGTHS; l++)
+                compare(kinds[k], &o, rows[r].name, lengths[l], &all);
+        }
+        for (set = 0; set < SETS; set++) {
+            fill_worst(&o, set);
+            compare(kinds[k], &o, "", 1, &all);
+        }
+    }
+    printf("%ld answers compared; SLEEF's left out, %ld are wrong\n", all.compared, all.wrong);
+    return all.wrong == 0;
 }
 
 static double now(void) {
@@ -145,23 +228,13 @@ static double now(void) {
     return (double)t.tv_sec * 1e9 + (double)t.tv_nsec;
 }
 
-static uint64_t sink;
-
-static double time_one(const struct peer *p, const struct operands *o, long passes) {
-    double start = now();
-    measured(p->one, o, passes * N, &sink);
-    return (now() - start) / (double)(passes * N);
-}
-
-static double time_list(const struct peer *p, const struct operands *o, long passes) {
+static double time_passes(const struct peer *p, const struct operands *o, size_t length, long passes) {
     static struct answers a;
     double start = now();
     long i;
-    for (i = 0; i < passes; i++) {
-        p->list(o, &a);
-        sink += a.values[N - 1];
-    }
-    return (now() - start) / (double)(passes * N);
+    for (i = 0; i < passes; i++)
+        measured(p, o, length, &a);
+    return (now() - start) / (double)passes / (double)o->n;
 }
 
 static int ascending(const void *a, const void *b) {
@@ -169,99 +242,134 @@ static int ascending(const void *a, const void *b) {
     return (x > y) - (x < y);
 }
 
-typedef double timer(const struct peer *, const struct operands *, long);
+static double median(const double *list, int n) {
+    double sorted[ROUNDS];
+    memcpy(sorted, list, sizeof *list * (size_t)n);
+    qsort(sorted, (size_t)n, sizeof *sorted, ascending);
+    return sorted[n / 2];
+}
 
-static void print_table(const char *title, const struct operands *o, timer *time_it) {
-    static double times[PEERS][ROUNDS];
-    long passes[PEERS];
-    int p, r;
-    for (p = 0; p < PEERS; p++) {
-        /* about 4 ms a round */
-        double first = time_it(&peers[p], o, 1);
-        passes[p] = 1 + (long)(4e6 / (first * N));
-    }
+/* All peers in turns, so that what the machine does meanwhile touches all of them. A turn takes about the given nanoseconds. */
+static void time_rounds(uint32_t kind, const struct operands *o, size_t length, int rounds, double turn, double times[][ROUNDS]) {
+    long passes[MOST_PEERS];
+    int p, r, count;
+    const struct peer *peers = peers_of(kind, &count);
+    for (p = 0; p < count; p++)
+        if (takes(&peers[p], length))
+            passes[p] = 1 + (long)(turn / (time_passes(&peers[p], o, length, 1) * (double)o->n));
+    for (r = 0; r < rounds; r++)
+        for (p = 0; p < count; p++)
+            if (takes(&peers[p], length))
+                times[p][r] = time_passes(&peers[p], o, length, passes[p]);
+}
+
+static double median_ratio(const double *ours, const double *theirs) {
+    double ratios[ROUNDS];
+    int r;
     for (r = 0; r < ROUNDS; r++)
-        for (p = 0; p < PEERS; p++)
-            times[p][r] = time_it(&peers[p], o, passes[p]);
-    for (p = 0; p < PEERS; p++)
-        qsort(times[p], ROUNDS, sizeof **times, ascending);
-    printf("%s\n", title);
-    for (p = 0; p < PEERS; p++)
-        printf("  %-18s %9.1f ns  %7.2f\n", peers[p].name, times[p][ROUNDS / 2], times[p][ROUNDS / 2] / times[0][ROUNDS / 2]);
+        ratios[r] = ours[r] / theirs[r];
+    return median(ratios, ROUNDS);
 }
 
-/* The quotients of the peers that give them, one a call. */
-static int quotients_agree(const struct operands *o) {
-    int i, wrong = 0;
-    for (i = 0; i < N; i++) {
-        uint64_t value;
-        uint32_t ours, branching, branch_free;
-        zk_rem64(o->x[i], o->y[i], ZK_TRUNCATED, &value, &ours);
-        shift_rem64_branching(o->x[i], o->y[i], &value, &branching);
-        shift_rem64_branch_free(o->x[i], o->y[i], &value, &branch_free);
-        if ((branching != ours || branch_free != ours) && !wrong++)
-            printf("a quotient differs at %016llX by %016llX: %lu and %lu, zukemoriha %lu\n", (unsigned long long)o->x[i],
-                   (unsigned long long)o->y[i], (unsigned long)branching, (unsigned long)branch_free, (unsigned long)ours);
-    }
-    return wrong == 0;
+static void print_head(uint32_t kind, size_t length) {
+    int p, count;
+    const struct peer *peers = peers_of(kind, &count);
+    if (length == 1)
+        printf("\none call, %s", kind_name(kind));
+    else
+        printf("\nlists of %lu, %s", (unsigned long)length, kind_name(kind));
+    printf(": ns a remainder; beside a peer's, zukemoriha's by it\n");
+    printf("%-10s %10s", "D", peers[0].name);
+    for (p = 1; p < count; p++)
+        if (takes(&peers[p], length))
+            printf("  %17s", peers[p].name);
+    printf("\n");
 }
 
-/* Every peer against the library, each value, and the bytes of a list where the peer gives them. */
-static int agree(const struct operands *o) {
-    static struct answers ours, theirs;
-    int p, i, wrong = !quotients_agree(o);
-    list_zukemoriha(o, &ours);
-    for (p = 0; p < PEERS; p++) {
-        int quotients = peers[p].list != list_fmod && peers[p].list != list_fprem;
-        memset(&theirs, 0, sizeof theirs);
-        peers[p].list(o, &theirs);
-        for (i = 0; i < N; i++) {
-            uint64_t one = peers[p].one(o->x[i], o->y[i]), expected = one_zukemoriha(o->x[i], o->y[i]);
-            if (one != expected || ours.values[i] != theirs.values[i] || (quotients && ours.quotients[i] != theirs.quotients[i])) {
-                if (!wrong++)
-                    printf("%s differs at %016llX by %016llX: %016llX, zukemoriha %016llX\n", peers[p].name, (unsigned long long)o->x[i],
-                           (unsigned long long)o->y[i], (unsigned long long)one, (unsigned long long)expected);
-            }
-        }
-    }
-    return wrong == 0;
-}
-
-static int count(const char *name, const char *gap, long calls) {
+static void print_row(uint32_t kind, const struct row *row, size_t length) {
     static struct operands o;
-    int p;
-    fill(&o, strcmp(gap, "far") == 0);
-    for (p = 0; p < PEERS; p++)
-        if (strcmp(peers[p].name, name) == 0) {
-            measured(peers[p].one, &o, calls, &sink);
-            return 0;
+    static double times[MOST_PEERS][ROUNDS];
+    int p, count;
+    const struct peer *peers = peers_of(kind, &count);
+    fill(&o, row);
+    time_rounds(kind, &o, length, ROUNDS, 4e6, times);
+    printf("%-10s %10.1f", row->name, median(times[0], ROUNDS));
+    for (p = 1; p < count; p++)
+        if (takes(&peers[p], length))
+            printf("  %9.1f %7.3f", median(times[p], ROUNDS), median_ratio(times[0], times[p]));
+    printf("\n");
+    fflush(stdout);
+}
+
+/* Of each peer the slowest set, a median of all its rounds. */
+static void print_worst(uint32_t kind) {
+    static struct operands o;
+    static double times[MOST_PEERS][ROUNDS];
+    double worst[MOST_PEERS] = {0};
+    int slowest[MOST_PEERS] = {0}, p, set, count;
+    const struct peer *peers = peers_of(kind, &count);
+    for (set = 0; set < SETS; set++) {
+        fill_worst(&o, set);
+        time_rounds(kind, &o, 1, WORST_ROUNDS, 5e5, times);
+        for (p = 0; p < count; p++)
+            if (peers[p].each && median(times[p], WORST_ROUNDS) > worst[p]) {
+                worst[p] = median(times[p], WORST_ROUNDS);
+                slowest[p] = set;
+            }
+    }
+    printf("\nworst case of one call, %s: microseconds\n", kind_name(kind));
+    for (p = 0; p < count; p++)
+        if (peers[p].each) {
+            printf("%-17s %8.3f  ", peers[p].name, worst[p] / 1000);
+            print_set(slowest[p]);
         }
-    fprintf(stderr, "no such peer: %s\n", name);
-    return 2;
 }
 
 static int compare_times(void) {
-    static struct operands near, far;
-    fill(&near, 0);
-    fill(&far, 1);
-    if (!agree(&near) || !agree(&far))
+    int k, l, r;
+    if (!agree())
         return 1;
-    printf("binary64, truncated; time for one remainder, and its ratio to zukemoriha's (above 1: slower)\n");
-    print_table("one a call, near (D 0 to 63)", &near, time_one);
-    print_table("one a call, far (D 1000 to 2000)", &far, time_one);
-    print_table("list of 4096, near (D 0 to 63)", &near, time_list);
-    print_table("list of 4096, far (D 1000 to 2000)", &far, time_list);
+    for (l = 0; l < LENGTHS; l++)
+        for (k = 0; k < 2; k++) {
+            print_head(kinds[k], lengths[l]);
+            for (r = 0; r < ROWS; r++)
+                print_row(kinds[k], &rows[r], lengths[l]);
+        }
+    for (k = 0; k < 2; k++)
+        print_worst(kinds[k]);
+    return 0;
+}
+
+/* A line for each pass, in the order of the passes: the table, the row, the peer, the number of remainders. */
+static int count_passes(void) {
+    static struct operands o;
+    static struct answers a;
+    int k, l, r, p, count;
+    for (l = 0; l < 2; l++)
+        for (k = 0; k < 2; k++) {
+            const struct peer *peers = peers_of(kinds[k], &count);
+            for (r = 0; r < ROWS; r++) {
+                fill(&o, &rows[r]);
+                for (p = 0; p < count; p++)
+                    if (takes(&peers[p], lengths[l])) {
+                        measured(&peers[p], &o, lengths[l], &a);
+                        printf("%s, %s\t%s\t%s\t%d\n", l == 0 ? "one call" : "lists of 4096", kind_name(kinds[k]), rows[r].name,
+                               peers[p].name, N);
+                    }
+            }
+        }
     return 0;
 }
 
 int main(int argc, char **argv) {
-    int p;
-    if (argc == 5 && strcmp(argv[1], "count") == 0)
-        return count(argv[2], argv[3], atol(argv[4]));
-    if (argc == 2 && strcmp(argv[1], "peers") == 0) {
-        for (p = 0; p < PEERS; p++)
-            puts(peers[p].name);
-        return 0;
+    if (!find_peers()) {
+        fprintf(stderr, "this C library has no fmod or remainder\n");
+        return 2;
     }
-    return compare_times();
+    if (argc == 2 && strcmp(argv[1], "count") == 0)
+        return count_passes();
+    if (argc == 1)
+        return compare_times();
+    fprintf(stderr, "usage: bench [count]\n");
+    return 2;
 }
