@@ -26,7 +26,7 @@ pub struct Counted {
 }
 
 // b's last zeros make room for as many places.
-fn divide_once(a: u64, b: u64, places: u32) -> Divided
+pub fn divide_once(a: u64, b: u64, places: u32) -> Divided
     requires { ⌜ (2 ^ 63 ≤ b) × (b % 2 ^ places ≡ 0) ⌝ }
     ensures { λ r. ⌜ r ≡ dividedOf a b places ⌝ }
 {

@@ -176,6 +176,10 @@ kept : (κ : Kind) (m : ℕ) (x : Value) → x .count < m → roundsUp κ 0 (x .
 unfolding finishBy finish
 kept κ m x h e = rw (div-eq-of-lt h, mod-eq-of-lt h, e)
 
+-- cut, a divisor above the dividend is as an infinite one
+pub finish-under : (m : ℕ) (x : Value) → x .count < m → finishBy Truncated m x ≡ finish Truncated unbounded x
+finish-under m x h = kept Truncated m x h refl
+
 -- a divisor of at least twice the dividend, as an infinite one
 pub finish-far : (κ : Kind) (m : ℕ) (x : Value) → 0 < m → 2 * x .count ≤ m → finishBy κ m x ≡ finish κ unbounded x
 finish-far Truncated m x h l = kept Truncated m x (omega arith) refl

@@ -1,4 +1,5 @@
+pub mod Below
+pub mod Magnitude
 pub mod Normals
 pub mod Operands
 pub mod Scaled
-pub mod Magnitude

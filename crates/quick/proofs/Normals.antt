@@ -39,7 +39,7 @@ valueOf b = record { negative = leb (2 ^ 63) b; count = significandOf b * 2 ^ (f
 pub count-pos : (b : ℕ) → 0 < valueOf b .count
 count-pos b = mul-pos (omega arith) (pow-pos (fieldOf b - 1))
 
-normal-class : (b : ℕ) → 0 < fieldOf b → fieldOf b < 2047 → classOf binary64 b ≡ finite (valueOf b)
+pub normal-class : (b : ℕ) → 0 < fieldOf b → fieldOf b < 2047 → classOf binary64 b ≡ finite (valueOf b)
 unfolding classOf
 normal-class b some low =
     simp (ne-eqb (fieldOf b) 2047 (λ h. omega arith), not-zero (fieldOf b) some)
@@ -48,6 +48,11 @@ normal-class b some low =
 -- the answer of an accepted call
 abbrev pub answerOf : Value → ℕ → Remainder
 answerOf v q = record { number = 0; value = patternOf binary64 (finite v); quotient = quotientBits q }
+
+pub normals-answer : (κ : Kind) (x y : ℕ) → classOf binary64 x ≡ finite (valueOf x) → classOf binary64 y ≡ finite (valueOf y)
+    → let r = finishBy κ (valueOf y .count) (valueOf x) in remainder binary64 κ x y ≡ answerOf (r .value) (r .whole)
+unfolding remainder remainderOf first finish refusedValue
+normals-answer κ x y dividend divisor = rw (dividend, divisor, not-zero (valueOf y .count) (count-pos y))
 
 -- both operands, and the definition's answer for them
 module _ (x y : ℕ) (fs : Fields x y) where
@@ -58,5 +63,4 @@ module _ (x y : ℕ) (fs : Fields x y) where
   divisor = normal-class y (fs .some) (omega arith)
 
   pub answer : (κ : Kind) → let r = finishBy κ (valueOf y .count) (valueOf x) in remainder binary64 κ x y ≡ answerOf (r .value) (r .whole)
-  unfolding remainder remainderOf first finish refusedValue
-  answer κ = rw (dividend, divisor, not-zero (valueOf y .count) (count-pos y))
+  answer κ = normals-answer κ x y dividend divisor

@@ -26,7 +26,7 @@ module _ (s t : ℕ) (top : 2 ^ 52 ≤ s) (word : s < 2 ^ 53) where
   digits : size (s * 2 ^ t) ≡ 53 + t
   digits = size-shift s t (omega arith) ∙ ap (λ (k : ℕ). k + t) (size-between s 52 top word)
 
-  place : size (s * 2 ^ t) - 1 ≡ 52 + t
+  pub place : size (s * 2 ^ t) - 1 ≡ 52 + t
   place = omega (arith, digits)
 
   spread-lead : lead (s * 2 ^ t) ≡ s * 2 ^ 11

@@ -3,18 +3,23 @@
 // normalised. It takes a third of the instructions. Everything else goes the general way.
 // Only crates of this repository call these.
 use definitions::Kind;
+use division::Counted;
 use division::divide_counted;
+use division::divide_once;
 use pairs::rounds_up;
 use quotients::quotient_bits;
 use std::num::wrapping_add_u32;
 ghost use mathlib.Core.Path.{_≡_};
 ghost use mathlib.Core.Bool.{true};
 ghost use Prim.Native.Nat.{_-_, _*_, _/_, _%_, _^_, _≤_, _<_};
+ghost use lib.Dec.{ltb};
 ghost use Rattle.definitions.specs.Class.{finite};
 ghost use Rattle.definitions.specs.Format.{binary64, patternOf};
 ghost use Rattle.definitions.specs.Remainder.{remainder};
+ghost use Rattle.division.specs.Divided.{dividedOf};
+ghost use Rattle.division.specs.Divisions.{divisionsOf};
 ghost use Rattle.pairs.specs.Divisions.{divisions};
-ghost use Rattle.quick.specs.Common.{fieldOf, spreadOf, common};
+ghost use Rattle.quick.specs.Common.{fieldOf, spreadOf, common, marginOf, kept};
 
 // A remainder of the common case: it is never refused.
 pub struct Quick {
@@ -41,10 +46,45 @@ fn spread(pattern: u64) -> u64
     (pattern % UNIT + UNIT) * 2048
 }
 
+pub fn is_below(x: u64, y: u64) -> bool
+    ensures { λ r. ⌜ r ≡ ltb (fieldOf x) (fieldOf y) ⌝ }
+{
+    field_of(x) < field_of(y)
+}
+
 pub fn is_common(x: u64, y: u64) -> bool
     ensures { λ r. ⌜ r ≡ common x y ⌝ }
 {
     field_of(x) < 2047 && 0 < field_of(y) && field_of(y) <= field_of(x)
+}
+
+// How many fields a dividend has to lie further below its divisor, where the quotient may go up.
+fn margin(kind: Kind) -> u64
+    ensures { λ r. ⌜ r ≡ marginOf kind ⌝ }
+{
+    match kind {
+        Kind::Truncated => 0,
+        Kind::Nearest => 1,
+    }
+}
+
+// Whether the fields alone say that a normal dividend is its own remainder.
+pub fn is_kept(x: u64, y: u64, kind: Kind) -> bool
+    ensures { λ r. ⌜ r ≡ kept kind x y ⌝ }
+{
+    0 < field_of(x) && field_of(x) + margin(kind) < field_of(y) && field_of(y) < 2047
+}
+
+pub fn remainder_kept(x: u64, y: u64, kind: Kind) -> Quick
+    requires { ⌜ kept kind x y ≡ true ⌝ }
+    ensures answer { λ r. ⌜ record { number = 0; value = r .value; quotient = r .quotient } ≡ remainder binary64 kind x y ⌝ }
+    ensures divisions { λ r. ⌜ r .divisions ≡ divisions binary64 x y ⌝ }
+{
+    Quick {
+        value: x,
+        quotient: 0,
+        divisions: 0,
+    }
 }
 
 // The pattern of a significand with eleven spare bits, at the place of a field: its leading zeros come off the field, as far as that goes.
@@ -64,27 +104,41 @@ fn written(negative: bool, significand: u64, field: u64) -> u64
     }
 }
 
+// The divisor ends in eleven zeros at least: where there are no more places, one division is enough, and is compiled in here.
+fn divide_quick(a: u64, b: u64, places: u32) -> Counted
+    requires { ⌜ 2 ^ 63 ≤ b ⌝ }
+    ensures divided { λ r. ⌜ r .divided ≡ dividedOf a b places ⌝ }
+    ensures divisions { λ r. ⌜ r .divisions ≡ divisionsOf a b places ⌝ }
+{
+    if places <= u64::trailing_zeros(b) {
+        return Counted {
+            divided: divide_once(a, b, places),
+            divisions: 1,
+        };
+    }
+    divide_counted(a, b, places)
+}
+
 pub fn remainder_common(x: u64, y: u64, kind: Kind) -> Quick
     requires { ⌜ common x y ≡ true ⌝ }
     ensures answer { λ r. ⌜ record { number = 0; value = r .value; quotient = r .quotient } ≡ remainder binary64 kind x y ⌝ }
     ensures divisions { λ r. ⌜ r .divisions ≡ divisions binary64 x y ⌝ }
 {
-    let negative = SIGN <= x;
     let divisor = spread(y);
     let field = field_of(y);
-    let counted = divide_counted(spread(x), divisor, (field_of(x) - field) as u32);
+    let counted = divide_quick(spread(x), divisor, (field_of(x) - field) as u32);
     let left = counted.divided;
-    if rounds_up(kind, left.quotient, left.remainder, divisor) {
-        Quick {
-            value: written(!negative, divisor - left.remainder, field),
-            quotient: quotient_bits(wrapping_add_u32(left.quotient, 1)),
-            divisions: counted.divisions,
-        }
-    } else {
-        Quick {
-            value: written(negative, left.remainder, field),
-            quotient: quotient_bits(left.quotient),
-            divisions: counted.divisions,
-        }
+    let mut negative = SIGN <= x;
+    let mut rest = left.remainder;
+    let mut quotient = left.quotient;
+    if rounds_up(kind, quotient, rest, divisor) {
+        negative = !negative;
+        rest = divisor - rest;
+        quotient = wrapping_add_u32(quotient, 1);
+    }
+    Quick {
+        value: written(negative, rest, field),
+        quotient: quotient_bits(quotient),
+        divisions: counted.divisions,
     }
 }

@@ -1,8 +1,8 @@
 -- The remainder of operands that are those of patterns is that of the patterns, in every format. Assumes nothing.
-use mathlib.Core.Path.{_≡_, sym, _∙_}
-use mathlib.Core.Bool.{Bool, true, false, _||_}
+use mathlib.Core.Path.{_≡_, sym, ap, _∙_}
+use mathlib.Core.Bool.{Bool, false, _||_}
 use Prim.Native.Nat.{ℕ, _<_}
-use native.Mathlib.Nat.{zero-add, lt-of-lt-of-le}
+use native.Mathlib.Nat.{zero-add}
 use lib.IntN.{pos}
 use Rattle.definitions.specs.Format.{Format, binary64, classOf}
 use Rattle.definitions.specs.Facts.{denormal, toldDenormal}
@@ -18,8 +18,7 @@ use Rattle.shapes.specs.declared.shape.Shape.{Shape}
 use Rattle.shapes.specs.Shape.{formatOf, shapeOf, Sound}
 use Rattle.digits.proofs.Tests.{not-zero}
 use Rattle.pairs.specs.Divisions.{divisorDivisions, divisions}
-use Rattle.quick.specs.Common.{fieldOf, common}
-use Rattle.quick.proofs.Normals.{fields}
+use Rattle.quick.specs.Common.{fieldOf}
 use Rattle.packing.proofs.Standing.{class-pattern}
 
 module _ (f : Format) (ok : Sound f) (h : Shape) (of : h ≡ shapeOf f) (x y : ℕ) (o p : Operand)
@@ -37,17 +36,15 @@ module _ (f : Format) (ok : Sound f) (h : Shape) (of : h ≡ shapeOf f) (x y : �
   unfolding divisions
   patterns-divisions n e = e ∙ (λ i. divisorDivisions (ox i) (divisorOperand (py i)))
 
--- the common case of binary64: its answer as the code has it, and no denormal operand
-pub common-answer : (κ : Kind) (x y v q : ℕ) → record { number = 0; value = v; quotient = q } ≡ remainder binary64 κ x y
-    → remainderMeaning (Finished (record { high = 0; low = v }) q) ≡ remainder binary64 κ x y
+-- two normal patterns of binary64: their answer as the code has it, and neither is denormal
+pub normals-answer : (κ : Kind) (x y v q : ℕ) (a : RemainderAnswer) → a ≡ Finished (record { high = 0; low = v }) q
+    → record { number = 0; value = v; quotient = q } ≡ remainder binary64 κ x y → remainderMeaning a ≡ remainder binary64 κ x y
 unfolding remainderMeaning
-common-answer κ x y v q e = rw (zero-add v) e
+normals-answer κ x y v q a f e = ap remainderMeaning f ∙ rw (zero-add v) e
 
 normal : (b : ℕ) → 0 < fieldOf b → denormal binary64 b ≡ false
 unfolding denormal
 normal b h = simp (not-zero (fieldOf b) h)
 
-pub common-denormal : (κ : Kind) (x y : ℕ) → common x y ≡ true → false ≡ toldDenormal binary64 (remainder binary64 κ x y .number) x y
-common-denormal κ x y e =
-    let fs = fields x y e in
-    sym (told-always binary64 κ x y (pos 0) .0 ∙ rw (normal x (lt-of-lt-of-le (fs .some) (fs .order)), normal y (fs .some)))
+pub normals-denormal : (κ : Kind) (x y : ℕ) → 0 < fieldOf x → 0 < fieldOf y → false ≡ toldDenormal binary64 (remainder binary64 κ x y .number) x y
+normals-denormal κ x y hx hy = sym (told-always binary64 κ x y (pos 0) .0 ∙ rw (normal x hx, normal y hy))

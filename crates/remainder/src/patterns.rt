@@ -13,13 +13,19 @@ use formats::binary::Binary16;
 use formats::binary::Binary32;
 use formats::binary::Binary64;
 use formats::x87::X87;
+use quick::Quick;
+use quick::is_below;
 use quick::is_common;
+use quick::is_kept;
 use quick::remainder_common;
+use quick::remainder_kept;
 ghost use mathlib.Core.Path.{_≡_};
+ghost use mathlib.Core.Bool.{false};
 ghost use Rattle.definitions.specs.Format.{binary16, binary32, binary64, x87, words};
 ghost use Rattle.definitions.specs.Facts.{toldDenormal};
 ghost use Rattle.definitions.specs.Remainder.{remainder};
 ghost use Rattle.definitions.specs.Answers.{remainderMeaning};
+ghost use Rattle.definitions.specs.declared.RemainderAnswer.the-variants.{Finished};
 ghost use Rattle.pairs.specs.Divisions.{divisions};
 
 pub fn remainder16(x: u16, y: u16, kind: Kind) -> RemainderTold
@@ -52,29 +58,33 @@ pub struct ToldCounted {
     pub divisions: u32,
 }
 
-// The common case has a way of its own. It has no denormal operand.
-pub fn remainder64_counted(x: u64, y: u64, kind: Kind) -> ToldCounted
+// A pair of normal numbers is never refused, and neither is denormal.
+fn told_of(quick: Quick) -> ToldCounted
+    ensures answer { λ r. ⌜ r .told .answer ≡ Finished (record { high = 0; low = quick .value }) (quick .quotient) ⌝ }
+    ensures denormal { λ r. ⌜ r .told .denormal ≡ false ⌝ }
+    ensures divisions { λ r. ⌜ r .divisions ≡ quick .divisions ⌝ }
+{
+    ToldCounted {
+        told: RemainderTold {
+            answer: RemainderAnswer::Finished {
+                value: Pattern {
+                    high: 0,
+                    low: quick.value,
+                },
+                quotient: quick.quotient,
+            },
+            denormal: false,
+        },
+        divisions: quick.divisions,
+    }
+}
+
+// Any two patterns: the way of every other format.
+fn remainder64_general(x: u64, y: u64, kind: Kind) -> ToldCounted
     ensures answer { λ r. ⌜ remainderMeaning (r .told .answer) ≡ remainder binary64 kind x y ⌝ }
     ensures denormal { λ r. ⌜ r .told .denormal ≡ toldDenormal binary64 (remainder binary64 kind x y .number) x y ⌝ }
     ensures divisions { λ r. ⌜ r .divisions ≡ divisions binary64 x y ⌝ }
 {
-    if is_common(x, y) {
-        let quick = remainder_common(x, y, kind);
-        let value = Pattern {
-            high: 0,
-            low: quick.value,
-        };
-        return ToldCounted {
-            told: RemainderTold {
-                answer: RemainderAnswer::Finished {
-                    value,
-                    quotient: quick.quotient,
-                },
-                denormal: false,
-            },
-            divisions: quick.divisions,
-        };
-    }
     let dividend = Binary64::of_pattern(x).operand;
     let divisor = Binary64::of_pattern(y).operand;
     let counted = remainder_counted(Binary64::shape(), dividend, divisor, kind);
@@ -86,6 +96,25 @@ pub fn remainder64_counted(x: u64, y: u64, kind: Kind) -> ToldCounted
         },
         divisions: counted.divisions,
     }
+}
+
+// Normal numbers have ways of their own, below the divisor's field and from it on. Each falls back on the general way by itself: a function
+// with one caller would be compiled into it, and make the quick ways slower.
+pub fn remainder64_counted(x: u64, y: u64, kind: Kind) -> ToldCounted
+    ensures answer { λ r. ⌜ remainderMeaning (r .told .answer) ≡ remainder binary64 kind x y ⌝ }
+    ensures denormal { λ r. ⌜ r .told .denormal ≡ toldDenormal binary64 (remainder binary64 kind x y .number) x y ⌝ }
+    ensures divisions { λ r. ⌜ r .divisions ≡ divisions binary64 x y ⌝ }
+{
+    if is_below(x, y) {
+        if is_kept(x, y, kind) {
+            return told_of(remainder_kept(x, y, kind));
+        }
+        return remainder64_general(x, y, kind);
+    }
+    if is_common(x, y) {
+        return told_of(remainder_common(x, y, kind));
+    }
+    remainder64_general(x, y, kind)
 }
 
 pub fn remainder64(x: u64, y: u64, kind: Kind) -> RemainderTold

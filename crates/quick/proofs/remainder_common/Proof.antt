@@ -1,11 +1,13 @@
 -- `remainder_common` meets its contract: its calls, put together. Assumes nothing.
 use mathlib.Core.Path.{_≡_, sym, ap, _∙_}
 use mathlib.Core.Bool.{Bool, true, false}
-use Prim.Native.Nat.{ℕ, _+_, _-_, _%_, _^_, _≤_, _<_}
+use mathlib.Core.Logic.{⊎-elim}
+use Prim.Native.Nat.{ℕ, _+_, _-_, _*_, _/_, _%_, _^_, _≤_, _<_}
 use native.Mathlib.Nat.{le-of-lt}
 use native.Mathlib.Omega.{arith}
 use lib.Dec.{leb}
-use Rattle.definitions.specs.Format.{binary64}
+use Rattle.definitions.specs.Class.{finite}
+use Rattle.definitions.specs.Format.{binary64, patternOf}
 use Rattle.definitions.specs.Division.{roundsUp}
 use Rattle.definitions.specs.Remainder.{quotientBits, remainder}
 use Rattle.division.specs.declared.Divided.{Divided}
@@ -33,19 +35,19 @@ spread-requires-2 c κs = search needs
 field-of-requires-2 : tie.Need-field-of-requires-2
 field-of-requires-2 c κs = search needs
 
-sub-divide-counted : tie.Need-sub-divide-counted
-sub-divide-counted c =
+sub-divide-quick : tie.Need-sub-divide-quick
+sub-divide-quick c =
     let s = c .before .before .before .before in
     omega (arith, fields (s .args .x) (s .args .y) (s .pre))
 
-cast-divide-counted : tie.Need-cast-divide-counted
-cast-divide-counted c = search needs
+cast-divide-quick : tie.Need-cast-divide-quick
+cast-divide-quick c = search needs
 
-divide-counted-requires : tie.Need-divide-counted-requires
-divide-counted-requires c κs = search needs
+divide-quick-requires : tie.Need-divide-quick-requires
+divide-quick-requires c κs = search needs
 
 -- what was divided, and what is left
-module _ (c : tie.After-divide-counted) where
+module _ (c : tie.After-divide-quick) where
   abbrev start : tie.Start
   start = c .before .before .before .before .before
 
@@ -56,7 +58,7 @@ module _ (c : tie.After-divide-counted) where
   y = start .args .y
 
   abbrev left : Divided
-  left = c .divide-counted .result .divided
+  left = c .divide-quick .result .divided
 
   abbrev divisor : ℕ
   divisor = c .before .before .before .before .spread .result
@@ -74,11 +76,11 @@ module _ (c : tie.After-divide-counted) where
   ordered = fields x y (start .pre)
 
   left-is : left ≡ dividedOf (spreadOf x) (spreadOf y) (fieldOf x - fieldOf y)
-  left-is = c .divide-counted .ensures .0 ∙ (λ i. dividedOf (c .before .before .spread2 .ensures i) (divisor-is i) (c .before .field-of2 .ensures i - field-is i))
+  left-is = c .divide-quick .ensures .0 ∙ (λ i. dividedOf (c .before .before .spread2 .ensures i) (divisor-is i) (c .before .field-of2 .ensures i - field-is i))
 
-  count-is : c .divide-counted .result .divisions ≡ divisions binary64 x y
+  count-is : c .divide-quick .result .divisions ≡ divisions binary64 x y
   count-is =
-      c .divide-counted .ensures .1 ∙ (λ i. divisionsOf (c .before .before .spread2 .ensures i) (divisor-is i) (c .before .field-of2 .ensures i - field-is i))
+      c .divide-quick .ensures .1 ∙ (λ i. divisionsOf (c .before .before .spread2 .ensures i) (divisor-is i) (c .before .field-of2 .ensures i - field-is i))
       ∙ sym (divisions-are x y ordered)
 
   below : left .remainder < divisor
@@ -105,36 +107,37 @@ module _ (c : tie.After-divide-counted) where
 rounds-up-requires : tie.Need-rounds-up-requires
 rounds-up-requires c κs = below (c .before)
 
-sub-written : tie.Need-sub-written
-sub-written c = le-of-lt (below (c .before .before .before .before))
-
-written-requires : tie.Need-written-requires
-written-requires c κs = let d = c .before .before .before .before in (missing-ends d, low d, high d)
+sub-rest : tie.Need-sub-rest
+sub-rest c = le-of-lt (below (c .before .before .before))
 
 wrapping-add-u32-requires : tie.Need-wrapping-add-u32-requires
 wrapping-add-u32-requires c κs = search needs
 
+written-requires : tie.Need-written-requires
+written-requires c κs =
+    let d = c .before .before .before in
+    (⊎-elim (λ w. rw (w .3) (missing-ends d)) (λ w. rw (w .2) (ends d)) (c .if1 .came), low d, high d)
+
 quotient-bits-requires : tie.Need-quotient-bits-requires
 quotient-bits-requires c κs = search needs
 
-written-requires-2 : tie.Need-written-requires-2
-written-requires-2 c κs = let d = c .before .before .before in (ends d, low d, high d)
-
-quotient-bits-requires-2 : tie.Need-quotient-bits-requires-2
-quotient-bits-requires-2 c κs = search needs
-
 returns : tie.Need-returns
 returns c =
-    let t = c .before .before .before .before in
-    let d = t .before .before .before in
-    let quotient = c .quotient-bits .ensures ∙ ap quotientBits (c .before .wrapping-add-u32 .ensures) ∙ bits-low (left d .quotient + 1) in
-    ((λ i. record { number = 0; value = c .before .before .written .ensures i; quotient = quotient i }) ∙ sym (answer d true (sym (t .if1 .taken) ∙ t .before .rounds-up .ensures)), count-is d)
-
-returns-2 : tie.Need-returns-2
-returns-2 c =
-    let t = c .before .before in
-    let d = t .before .before .before in
-    ((λ i. record { number = 0; value = c .before .written2 .ensures i; quotient = c .quotient-bits2 .ensures i }) ∙ sym (answer d false (sym (t .if1 .left) ∙ t .before .rounds-up .ensures)), count-is d)
+    let j = c .before .before in
+    let u = j .before .rounds-up in
+    let d = j .before .before .before in (
+      ⊎-elim
+          (λ w.
+          let quotient = c .quotient-bits .ensures ∙ ap quotientBits (w .4 ∙ w .1 .ensures) ∙ bits-low (left d .quotient + 1) in
+          let value = c .before .written .ensures ∙ (λ i. patternOf binary64 (finite (record { negative = w .2 i; count = w .3 i / 2 ^ 11 * 2 ^ (field d - 1) }))) in
+          (λ i. record { number = 0; value = value i; quotient = quotient i }) ∙ sym (answer d true (sym (w .0 .taken) ∙ u .ensures)))
+          (λ w.
+          let quotient = c .quotient-bits .ensures ∙ ap quotientBits (w .3) in
+          let value = c .before .written .ensures ∙ (λ i. patternOf binary64 (finite (record { negative = w .1 i; count = w .2 i / 2 ^ 11 * 2 ^ (field d - 1) }))) in
+          (λ i. record { number = 0; value = value i; quotient = quotient i }) ∙ sym (answer d false (sym (w .0 .left) ∙ u .ensures)))
+          (j .if1 .came),
+      count-is d,
+    )
 
 pub remainder-common-spec : {M : Type 1} → statement M
 remainder-common-spec =
@@ -144,15 +147,12 @@ remainder-common-spec =
     field-of-requires
     spread-requires-2
     field-of-requires-2
-    sub-divide-counted
-    cast-divide-counted
-    divide-counted-requires
+    sub-divide-quick
+    cast-divide-quick
+    divide-quick-requires
     rounds-up-requires
-    sub-written
-    written-requires
+    sub-rest
     wrapping-add-u32-requires
+    written-requires
     quotient-bits-requires
-    written-requires-2
-    quotient-bits-requires-2
-    returns
-    returns-2)
+    returns)

@@ -1,68 +1,83 @@
--- `remainder64_counted` meets its contract: in the common case both operands are normal; in any other the shape is that of binary64, and the
--- operands are those of the patterns. Assumes nothing.
-use mathlib.Core.Path.{_≡_, sym, _∙_}
-use Rattle.definitions.specs.Format.{binary64}
-use Rattle.definitions.specs.Answers.{remainderMeaning}
-use Rattle.shapes.proofs.Sounds.{sound64}
-use Rattle.remainder.proofs.OfPatterns.{patterns-remainder, patterns-denormal, patterns-divisions, common-answer, common-denormal}
-use Rattle.packing.proofs.Standing.{patterns-stand}
+-- `remainder64_counted` meets its contract: two normal numbers by their own ways, and any two patterns by the general one. Assumes nothing.
+use mathlib.Core.Path.{sym, _∙_}
+use native.Mathlib.Nat.{lt-of-lt-of-le}
+use native.Mathlib.Omega.{arith}
+use Rattle.quick.proofs.Normals.{fields}
+use Rattle.quick.proofs.Below.{below}
+use Rattle.remainder.proofs.OfPatterns.{normals-answer, normals-denormal}
 use borrow.Author.Needs.{needs}
 use Rattle.remainder.proofs.patterns.remainder64_counted.Statement.{statement}
 use Rattle.remainder.proofs.patterns.remainder64_counted.Tie as tie
+
+is-below-requires : tie.Need-is-below-requires
+is-below-requires c κs = search needs
+
+is-kept-requires : tie.Need-is-kept-requires
+is-kept-requires c κs = search needs
+
+remainder-kept-requires : tie.Need-remainder-kept-requires
+remainder-kept-requires c κs = sym (c .before .is-kept .ensures) ∙ c .if2 .taken
+
+told-of-requires : tie.Need-told-of-requires
+told-of-requires c κs = search needs
+
+returns : tie.Need-returns
+returns c =
+    let t = c .told-of in
+    let q = c .before .remainder-kept in
+    let k = c .before .before in
+    let a = k .before .before .before .before .args in
+    let f = below (a .kind) (a .x) (a .y) (sym (k .before .is-kept .ensures) ∙ k .if2 .taken) in (
+      normals-answer (a .kind) (a .x) (a .y) (q .result .value) (q .result .quotient) (t .result .told .answer) (t .ensures .0) (q .ensures .0),
+      (t .ensures .1 .0 ∙ normals-denormal (a .kind) (a .x) (a .y) (f .some) (omega arith), t .ensures .1 .1 ∙ q .ensures .1),
+    )
+
+remainder64-general-requires : tie.Need-remainder64-general-requires
+remainder64-general-requires c κs = search needs
+
+returns-2 : tie.Need-returns-2
+returns-2 c = search needs
 
 is-common-requires : tie.Need-is-common-requires
 is-common-requires c κs = search needs
 
 remainder-common-requires : tie.Need-remainder-common-requires
-remainder-common-requires c κs = sym (c .before .is-common .ensures) ∙ c .if1 .taken
+remainder-common-requires c κs = sym (c .before .is-common .ensures) ∙ c .if3 .taken
 
-returns : tie.Need-returns
-returns c =
-    let q = c .remainder-common in
-    let t = c .before in
-    let s = t .before .before in
-    let a = s .args in
-    let is = sym (t .before .is-common .ensures) ∙ t .if1 .taken in
-    (common-answer (a .kind) (a .x) (a .y) (q .result .value) (q .result .quotient) (q .ensures .0), (common-denormal (a .kind) (a .x) (a .y) is, q .ensures .1))
+told-of-requires-2 : tie.Need-told-of-requires-2
+told-of-requires-2 c κs = search needs
 
-of-pattern-requires : tie.Need-of-pattern-requires
-of-pattern-requires c κs = search needs
-
-of-pattern-requires-2 : tie.Need-of-pattern-requires-2
-of-pattern-requires-2 c κs = search needs
-
-shape-requires : tie.Need-shape-requires
-shape-requires c κs = search needs
-
-remainder-counted-requires : tie.Need-remainder-counted-requires
-remainder-counted-requires c κs = patterns-stand binary64 sound64 _ (c .shape .ensures) _ _ _ _ (c .before .before .of-pattern .ensures) (c .before .of-pattern2 .ensures)
-
-any-denormal64-requires : tie.Need-any-denormal64-requires
-any-denormal64-requires c κs = search needs
-
-returns-2 : tie.Need-returns-2
-returns-2 c =
-    let r = c .before .remainder-counted in
-    let d = c .before .before in
-    let x = d .before .before .of-pattern .ensures in
-    let y = d .before .of-pattern2 .ensures in (
-      patterns-remainder binary64 sound64 _ (d .shape .ensures) _ _ _ _ x y _ (r .result .answer) (r .ensures .0),
-      (
-        patterns-denormal binary64 sound64 _ (d .shape .ensures) _ _ _ _ x y _ (c .any-denormal64 .result) (c .any-denormal64 .ensures),
-        patterns-divisions binary64 sound64 _ (d .shape .ensures) _ _ _ _ x y _ (r .ensures .1),
-      ),
+returns-3 : tie.Need-returns-3
+returns-3 c =
+    let t = c .told-of2 in
+    let q = c .before .remainder-common in
+    let k = c .before .before in
+    let a = k .before .before .before .before .args in
+    let f = fields (a .x) (a .y) (sym (k .before .is-common .ensures) ∙ k .if3 .taken) in (
+      normals-answer (a .kind) (a .x) (a .y) (q .result .value) (q .result .quotient) (t .result .told .answer) (t .ensures .0) (q .ensures .0),
+      (t .ensures .1 .0 ∙ normals-denormal (a .kind) (a .x) (a .y) (lt-of-lt-of-le (f .some) (f .order)) (f .some), t .ensures .1 .1 ∙ q .ensures .1),
     )
+
+remainder64-general-requires-2 : tie.Need-remainder64-general-requires-2
+remainder64-general-requires-2 c κs = search needs
+
+returns-4 : tie.Need-returns-4
+returns-4 c = search needs
 
 pub remainder64-counted-spec : {M : Type 1} → statement M
 remainder64-counted-spec =
     tie.close
     (tie.spec
+    is-below-requires
+    is-kept-requires
+    remainder-kept-requires
+    told-of-requires
+    returns
+    remainder64-general-requires
+    returns-2
     is-common-requires
     remainder-common-requires
-    returns
-    of-pattern-requires
-    of-pattern-requires-2
-    shape-requires
-    remainder-counted-requires
-    any-denormal64-requires
-    returns-2)
+    told-of-requires-2
+    returns-3
+    remainder64-general-requires-2
+    returns-4)
