@@ -1,14 +1,15 @@
--- The count of the divisions: its three cases, and D / 11 + 2 over all of them. Assumes nothing.
+-- The count of the divisions: its cases, and D / 11 + 2 over all of them. Assumes nothing.
 use mathlib.Core.Path.{_≡_, refl}
 use mathlib.Core.Bool.{Bool, true, false, cond, _&&_}
 use mathlib.Core.Logic.{⊎-elim}
-use Prim.Native.Nat.{ℕ, _+_, _/_, _%_, _^_, _≤_, _<_}
+use Prim.Native.Nat.{ℕ, _+_, _-_, _/_, _%_, _^_, _≤_, _<_}
 use native.Mathlib.Omega.{arith}
-use borrow.Author.Tests.{eq-eqb, ne-eqb, eqb-true, eqb-false, ltb-true}
+use borrow.Author.Tests.{eq-eqb, ne-eqb, eqb-true, eqb-false, ltb-true, lt-ltb, le-ltb}
 use lib.Dec.{eqb, ltb}
 use Rattle.digits.proofs.Tests.{and-both}
 use Rattle.reciprocals.proofs.Quotients.{side}
-use Rattle.division.specs.Divisions.{turnsOf, nearOf, divisionsOf}
+use Rattle.division.specs.Divisions.{squaringsOf, turnsOf, nearOf, divisionsOf}
+use Rattle.division.proofs.Squares.{squarings-small}
 use Rattle.division.proofs.Zeros.{trailing-mod, trailing-most, fewer-mod}
 use lib.Count.{trailingZeros}
 
@@ -35,6 +36,27 @@ module _ (a b places : ℕ) (some : 0 < b) (word : b < 2 ^ 64) where
   unfolding divisionsOf
   counted-turns h e = rw (more h, e)
 
+-- the turns, by the places
+module _ (places : ℕ) where
+  pub turns-one : places < 64 → turnsOf places ≡ 1
+  unfolding turnsOf
+  turns-one h = rw (lt-ltb places 64 h)
+
+  pub turns-two : 64 ≤ places → places < 128 → turnsOf places ≡ 2
+  unfolding turnsOf
+  turns-two l h = rw (le-ltb places 64 l, lt-ltb places 128 h)
+
+  pub turns-far : 128 ≤ places → turnsOf places ≡ 3 + squaringsOf (places - places % 64 - 64)
+  unfolding turnsOf
+  turns-far l = rw (le-ltb places 64 (omega arith), le-ltb places 128 l)
+
+  turns-bounded : 1 + turnsOf places ≤ places / 11 + 2
+  turns-bounded =
+      ⊎-elim
+      (λ (h : places < 128). ⊎-elim (λ (g : places < 64). rw (turns-one g) (omega arith)) (λ (l : 64 ≤ places). rw (turns-two l h) (omega arith)) (side places 64))
+      (λ (l : 128 ≤ places). let f = squarings-small (places - places % 64 - 64) (omega arith) in rw (turns-far l) (omega arith))
+      (side places 128)
+
 -- at most one division for every eleven places, and two
 pub divisions-bounded : (a b places : ℕ) → divisionsOf a b places ≤ places / 11 + 2
 unfolding divisionsOf
@@ -42,6 +64,6 @@ divisions-bounded a b places = go (eqb (b % 2 ^ places) 0) (nearOf a b places) r
   where
     go : (once near : Bool) → eqb (b % 2 ^ places) 0 ≡ once → nearOf a b places ≡ near → cond once 1 (cond near 3 (1 + turnsOf places)) ≤ places / 11 + 2
     go true near e f = omega arith
-    go false false e f = omega arith
+    go false false e f = turns-bounded places
     go false true e f =
         ⊎-elim (λ (h : 11 < places). omega arith) (λ (h : places ≤ 11). absurd (eqb-false (b % 2 ^ places) 0 e (fewer-mod b places 11 h (near-all a b places f .1)))) (side 11 places)

@@ -1,5 +1,5 @@
 -- The significands with their eleven spare bits divide as the counts do. Assumes nothing.
-use mathlib.Core.Path.{_≡_, sym, _∙_}
+use mathlib.Core.Path.{_≡_, refl, sym, _∙_}
 use mathlib.Core.Bool.{Bool, true, false, not, cond}
 use Prim.Native.Nat.{ℕ, _+_, _-_, _*_, _/_, _%_, _^_, _<_}
 use native.Mathlib.Nat.{mul-right-comm, mul-div-cancel, mul-mod-left, mod-lt}
@@ -17,6 +17,8 @@ use Rattle.quotients.proofs.Bits.{bits-low}
 use Rattle.laws.proofs.Division.{finerOutcome, finish-scale}
 use Rattle.pairs.proofs.Settled.{up-low}
 use Rattle.quick.specs.Common.{fieldOf, spreadOf}
+use Rattle.quick.specs.Settled.{settledOf}
+use Rattle.quick.specs.declared.Settled.{Settled}
 use Rattle.quick.proofs.Normals.{Fields, significandOf, answerOf, answer}
 
 -- the answer of an outcome whose value has eleven spare bits and stands e places above the smallest one
@@ -41,6 +43,14 @@ module _ (κ : Kind) (s : Bool) (A B d e : ℕ) (some : 0 < B) where
 abbrev pub told : Bool → Bool → Divided → ℕ → ℕ → Remainder
 told u n D b f =
     answerOf (record { negative = cond u (not n) n; count = cond u (b - D .remainder) (D .remainder) / 2 ^ 11 * 2 ^ (f - 1) }) (cond u (D .quotient + 1) (D .quotient))
+
+-- as it is settled
+abbrev pub settledAnswer : Settled → ℕ → Remainder
+settledAnswer s f = answerOf (record { negative = s .negative; count = s .rest / 2 ^ 11 * 2 ^ (f - 1) }) (s .quotient)
+
+pub told-settled : (u n : Bool) (D : Divided) (b f : ℕ) → settledAnswer (settledOf u n D b) f ≡ told u n D b f
+told-settled true n D b f = rw (bits-low (D .quotient + 1))
+told-settled false n D b f = refl
 
 bits-next : (u : Bool) (q : ℕ) → quotientBits (cond u (q % 2 ^ 32 + 1) (q % 2 ^ 32)) ≡ quotientBits (cond u (q + 1) q)
 bits-next true q = omega arith

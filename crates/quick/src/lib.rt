@@ -4,6 +4,7 @@
 // Only crates of this repository call these.
 use definitions::Kind;
 use division::Counted;
+use division::Divided;
 use division::divide_counted;
 use division::divide_once;
 use pairs::rounds_up;
@@ -15,10 +16,12 @@ ghost use Prim.Native.Nat.{_-_, _*_, _/_, _%_, _^_, _≤_, _<_};
 ghost use lib.Dec.{ltb};
 ghost use Rattle.definitions.specs.Class.{finite};
 ghost use Rattle.definitions.specs.Format.{binary64, patternOf};
+ghost use Rattle.definitions.specs.Division.{roundsUp};
 ghost use Rattle.definitions.specs.Remainder.{remainder};
 ghost use Rattle.division.specs.Divided.{dividedOf};
 ghost use Rattle.division.specs.Divisions.{divisionsOf};
 ghost use Rattle.pairs.specs.Divisions.{divisions};
+ghost use Rattle.quick.specs.Settled.{settledOf};
 ghost use Rattle.quick.specs.Common.{fieldOf, spreadOf, common, marginOf, kept};
 
 // A remainder of the common case: it is never refused.
@@ -26,6 +29,13 @@ pub struct Quick {
     pub value: u64,
     pub quotient: u32,
     pub divisions: u32,
+}
+
+// A left-over with its sign, and its quotient's low 32 bits.
+pub struct Settled {
+    pub negative: bool,
+    pub rest: u64,
+    pub quotient: u32,
 }
 
 // 2^52, the weight of the exponent field's last bit and of a significand's leading digit; and the sign's.
@@ -119,6 +129,34 @@ fn divide_quick(a: u64, b: u64, places: u32) -> Counted
     divide_counted(a, b, places)
 }
 
+// What a division left, settled by the kind. The nearest quotient goes up as often as not: its two answers are chosen between, and not
+// branched to.
+fn settle(kind: Kind, negative: bool, left: Divided, divisor: u64) -> Settled
+    requires { ⌜ left .remainder < divisor ⌝ }
+    ensures { λ r. ⌜ r ≡ settledOf (roundsUp kind (left .quotient) (left .remainder) divisor) negative left divisor ⌝ }
+{
+    let rest = left.remainder;
+    let quotient = left.quotient;
+    match kind {
+        Kind::Truncated => Settled {
+            negative,
+            rest,
+            quotient,
+        },
+        Kind::Nearest => {
+            let up = rounds_up(kind, quotient, rest, divisor);
+            let sign = if up { !negative } else { negative };
+            let nearest = if up { divisor - rest } else { rest };
+            let next: u32 = if up { 1 } else { 0 };
+            Settled {
+                negative: sign,
+                rest: nearest,
+                quotient: wrapping_add_u32(quotient, next),
+            }
+        }
+    }
+}
+
 pub fn remainder_common(x: u64, y: u64, kind: Kind) -> Quick
     requires { ⌜ common x y ≡ true ⌝ }
     ensures answer { λ r. ⌜ record { number = 0; value = r .value; quotient = r .quotient } ≡ remainder binary64 kind x y ⌝ }
@@ -127,18 +165,10 @@ pub fn remainder_common(x: u64, y: u64, kind: Kind) -> Quick
     let divisor = spread(y);
     let field = field_of(y);
     let counted = divide_quick(spread(x), divisor, (field_of(x) - field) as u32);
-    let left = counted.divided;
-    let mut negative = SIGN <= x;
-    let mut rest = left.remainder;
-    let mut quotient = left.quotient;
-    if rounds_up(kind, quotient, rest, divisor) {
-        negative = !negative;
-        rest = divisor - rest;
-        quotient = wrapping_add_u32(quotient, 1);
-    }
+    let settled = settle(kind, SIGN <= x, counted.divided, divisor);
     Quick {
-        value: written(negative, rest, field),
-        quotient: quotient_bits(quotient),
+        value: written(settled.negative, settled.rest, field),
+        quotient: quotient_bits(settled.quotient),
         divisions: counted.divisions,
     }
 }

@@ -1,24 +1,22 @@
 -- `remainder_common` meets its contract: its calls, put together. Assumes nothing.
-use mathlib.Core.Path.{_≡_, sym, ap, _∙_}
+use mathlib.Core.Path.{_≡_, refl, sym, ap, _∙_}
 use mathlib.Core.Bool.{Bool, true, false}
-use mathlib.Core.Logic.{⊎-elim}
-use Prim.Native.Nat.{ℕ, _+_, _-_, _*_, _/_, _%_, _^_, _≤_, _<_}
-use native.Mathlib.Nat.{le-of-lt}
+use Prim.Native.Nat.{ℕ, _-_, _%_, _^_, _≤_, _<_}
 use native.Mathlib.Omega.{arith}
 use lib.Dec.{leb}
-use Rattle.definitions.specs.Class.{finite}
-use Rattle.definitions.specs.Format.{binary64, patternOf}
+use Rattle.definitions.specs.Format.{binary64}
 use Rattle.definitions.specs.Division.{roundsUp}
-use Rattle.definitions.specs.Remainder.{quotientBits, remainder}
+use Rattle.definitions.specs.Remainder.{remainder}
 use Rattle.division.specs.declared.Divided.{Divided}
 use Rattle.division.specs.Divided.{dividedOf}
 use Rattle.division.specs.Divisions.{divisionsOf}
-use Rattle.quotients.proofs.Bits.{bits-low}
 use Rattle.pairs.specs.Divisions.{divisions}
 use Rattle.quick.specs.Common.{fieldOf, spreadOf}
+use Rattle.quick.specs.Settled.{settledOf}
+use Rattle.quick.specs.declared.Settled.{Settled}
 use Rattle.quick.proofs.Normals.{Fields, fields}
 use Rattle.quick.proofs.Operands.{divisions-are}
-use Rattle.quick.proofs.Scaled.{told, left-below, left-ends, left-answer}
+use Rattle.quick.proofs.Scaled.{told, settledAnswer, told-settled, left-below, left-ends, left-answer}
 use borrow.Author.Needs.{needs}
 use Rattle.quick.proofs.remainder_common.Statement.{statement}
 use Rattle.quick.proofs.remainder_common.Tie as tie
@@ -104,38 +102,34 @@ module _ (c : tie.After-divide-quick) where
       left-answer x y left left-is ordered (start .args .kind) u (e ∙ ap (roundsUp (start .args .kind) (left .quotient) (left .remainder)) divisor-is)
       ∙ (λ i. told u (leb (2 ^ 63) x) left (sym divisor-is i) (sym field-is i))
 
-rounds-up-requires : tie.Need-rounds-up-requires
-rounds-up-requires c κs = below (c .before)
+settle-requires : tie.Need-settle-requires
+settle-requires c κs = below c
 
-sub-rest : tie.Need-sub-rest
-sub-rest c = le-of-lt (below (c .before .before .before))
+-- what is settled
+module _ (c : tie.After-settle) where
+  abbrev decided : Bool
+  decided = roundsUp (start (c .before) .args .kind) (left (c .before) .quotient) (left (c .before) .remainder) (divisor (c .before))
 
-wrapping-add-u32-requires : tie.Need-wrapping-add-u32-requires
-wrapping-add-u32-requires c κs = search needs
+  settled-ends : c .settle .result .rest % 2 ^ 11 ≡ 0
+  settled-ends = rw (c .settle .ensures) (go decided)
+    where
+      go : (u : Bool) → settledOf u (leb (2 ^ 63) (x (c .before))) (left (c .before)) (divisor (c .before)) .rest % 2 ^ 11 ≡ 0
+      go true = missing-ends (c .before)
+      go false = ends (c .before)
 
 written-requires : tie.Need-written-requires
-written-requires c κs =
-    let d = c .before .before .before in
-    (⊎-elim (λ w. rw (w .3) (missing-ends d)) (λ w. rw (w .2) (ends d)) (c .if1 .came), low d, high d)
+written-requires c κs = let d = c .before in (settled-ends c, low d, high d)
 
 quotient-bits-requires : tie.Need-quotient-bits-requires
 quotient-bits-requires c κs = search needs
 
 returns : tie.Need-returns
 returns c =
-    let j = c .before .before in
-    let u = j .before .rounds-up in
-    let d = j .before .before .before in (
-      ⊎-elim
-          (λ w.
-          let quotient = c .quotient-bits .ensures ∙ ap quotientBits (w .4 ∙ w .1 .ensures) ∙ bits-low (left d .quotient + 1) in
-          let value = c .before .written .ensures ∙ (λ i. patternOf binary64 (finite (record { negative = w .2 i; count = w .3 i / 2 ^ 11 * 2 ^ (field d - 1) }))) in
-          (λ i. record { number = 0; value = value i; quotient = quotient i }) ∙ sym (answer d true (sym (w .0 .taken) ∙ u .ensures)))
-          (λ w.
-          let quotient = c .quotient-bits .ensures ∙ ap quotientBits (w .3) in
-          let value = c .before .written .ensures ∙ (λ i. patternOf binary64 (finite (record { negative = w .1 i; count = w .2 i / 2 ^ 11 * 2 ^ (field d - 1) }))) in
-          (λ i. record { number = 0; value = value i; quotient = quotient i }) ∙ sym (answer d false (sym (w .0 .left) ∙ u .ensures)))
-          (j .if1 .came),
+    let s = c .before .before in
+    let d = s .before in
+    let settled = ap (λ (z : Settled). settledAnswer z (field d)) (s .settle .ensures) in (
+      (λ i. record { number = 0; value = c .before .written .ensures i; quotient = c .quotient-bits .ensures i }) ∙ settled
+          ∙ told-settled (decided s) (leb (2 ^ 63) (x d)) (left d) (divisor d) (field d) ∙ sym (answer d (decided s) refl),
       count-is d,
     )
 
@@ -150,9 +144,7 @@ remainder-common-spec =
     sub-divide-quick
     cast-divide-quick
     divide-quick-requires
-    rounds-up-requires
-    sub-rest
-    wrapping-add-u32-requires
+    settle-requires
     written-requires
     quotient-bits-requires
     returns)

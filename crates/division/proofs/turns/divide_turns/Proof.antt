@@ -1,106 +1,128 @@
--- `divide_turns` meets its contract. The loop's invariant: what it holds is the answer for the places that are not left.
--- Assumes nothing.
+-- `divide_turns` meets its contract. Assumes nothing.
 use mathlib.Core.Path.{_≡_, sym, ap, _∙_}
-use Prim.Native.Nat.{ℕ, _+_, _-_, _*_, _/_, _%_, _^_, _≤_}
+use mathlib.Core.Logic.{⊎-elim}
+use Prim.Native.Nat.{ℕ, _+_, _-_, _*_, _%_, _^_, _≤_, _<_}
 use native.Mathlib.Nat.{mod-lt, mod-eq-of-lt, lt-of-lt-of-le}
 use native.Mathlib.Omega.{arith}
 use lib.Pow.{pow-pos}
+use Rattle.reciprocals.specs.Reciprocal.{quotientOf}
 use Rattle.reciprocals.specs.declared.Quotient.{Quotient}
-use Rattle.division.proofs.Places.{turn-mod, turn-low, two-words, upper-under, first-small, next-word, low-half}
+use Rattle.division.specs.Divisions.{turnsOf}
+use Rattle.division.specs.declared.Divided.{Divided}
+use Rattle.division.proofs.Count.{turns-one, turns-two, turns-far}
+use Rattle.division.proofs.Places.{first-word, upper-under, last-word}
+use Rattle.division.proofs.Squares.{rest-is, squarings-few}
+use borrow.Author.Needs.{needs}
 use Rattle.division.proofs.turns.divide_turns.Statement.{statement}
 use Rattle.division.proofs.turns.divide_turns.Tie as tie
 
-abbrev Inv-loop : tie.InvT-loop
-Inv-loop a b places v shift remainder₀ quotient₀ divisions₀ left₀ remainder quotient divisions left =
-    (left ≤ places / 64) × (divisions + left ≡ places / 64 + 2) × (remainder ≡ a * 2 ^ (places - 64 * left) % b)
-    × (quotient ≡ a * 2 ^ (places - 64 * left) / b % 2 ^ 64)
+reciprocal-requires : tie.Need-reciprocal-requires
+reciprocal-requires c κs = search needs
 
-abbrev μ-loop : tie.MeasureT-loop
-μ-loop a b places v shift remainder₀ quotient₀ divisions₀ left₀ remainder quotient divisions left = left
+sub-divide-words : tie.Need-sub-divide-words
+sub-divide-words c = search needs
 
-reciprocal-requires : tie.Need-reciprocal-requires Inv-loop μ-loop
-reciprocal-requires c κs = c .pre
+cast-divide-words : tie.Need-cast-divide-words
+cast-divide-words c = search needs
 
-sub-divide-words : tie.Need-sub-divide-words Inv-loop μ-loop
-sub-divide-words c = omega arith
+shr-divide-words : tie.Need-shr-divide-words
+shr-divide-words c = search needs
 
-cast-divide-words : tie.Need-cast-divide-words Inv-loop μ-loop
-cast-divide-words c = omega arith
+cast-divide-words-2 : tie.Need-cast-divide-words-2
+cast-divide-words-2 c = search needs
 
-shr-divide-words : tie.Need-shr-divide-words Inv-loop μ-loop
-shr-divide-words c = omega arith
+shl-divide-words : tie.Need-shl-divide-words
+shl-divide-words c = search needs
 
-cast-divide-words-2 : tie.Need-cast-divide-words-2 Inv-loop μ-loop
-cast-divide-words-2 c = omega arith
+divide-words-requires : tie.Need-divide-words-requires
+divide-words-requires c κs = let s = c .before in (upper-under (s .args .a) _ (s .args .b) (s .fits .a .fits) (s .pre), s .pre, c .reciprocal .ensures)
 
-shl-divide-words : tie.Need-shl-divide-words Inv-loop μ-loop
-shl-divide-words c = mod-lt _ (pow-pos 6)
+cast-t19 : tie.Need-cast-t19
+cast-t19 c = search needs
 
-divide-words-requires : tie.Need-divide-words-requires Inv-loop μ-loop
-divide-words-requires c κs =
-    let s = c .before in
-    (upper-under (s .args .a) (s .args .places % 64) (mod-lt _ (pow-pos 6)) (s .args .b) (s .fits .a .fits) (s .pre), s .pre, c .reciprocal .ensures)
+-- a quotient with its low 32 bits
+abbrev lowOf : Quotient → Divided
+lowOf q = record { remainder = q .remainder; quotient = q .quotient % 2 ^ 32 }
 
-loop-holds : tie.Need-loop-holds Inv-loop μ-loop
-loop-holds c =
-    let s = c .before .before in
+returns : tie.Need-returns
+returns c =
+    let d = c .before .before in
+    let a = d .before .before .args in
+    let few : a .places < 64 = omega (arith, c .before .if1 .taken) in
+    let is = d .divide-words .ensures ∙ first-word (a .a) (a .b) (a .places) ∙ ap (λ (s : ℕ). quotientOf (a .a * 2 ^ s) (a .b)) (mod-eq-of-lt few) in
+    (ap lowOf is, ap (λ (n : ℕ). 1 + n) (sym (turns-one (a .places) few)))
+
+sub-power-of-two : tie.Need-sub-power-of-two
+sub-power-of-two c = search needs
+
+sub-power-of-two-2 : tie.Need-sub-power-of-two-2
+sub-power-of-two-2 c = search needs
+
+power-of-two-requires : tie.Need-power-of-two-requires
+power-of-two-requires c κs = search needs
+
+multiplied-requires : tie.Need-multiplied-requires
+multiplied-requires c κs = search needs
+
+-- no more squarings than an exponent of a word has digits
+few-squarings : (c : tie.After-power-of-two) → c .power-of-two .result .divisions ≤ 26
+few-squarings c = let s = c .before .before .before .before .before in squarings-few (c .power-of-two .ensures .1) (omega (arith, s .fits .places .fits))
+
+add-divisions : tie.Need-add-divisions
+add-divisions c = record { fits = omega (arith, few-squarings (c .before .before)) }
+
+add-divisions-2 : tie.Need-add-divisions-2
+add-divisions-2 c = record { fits = omega (arith, few-squarings (c .before .before)) }
+
+-- what a division leaves is less than its divisor
+less : {r b : ℕ} → (n : ℕ) → 0 < b → r ≡ n % b → r < b
+less n some is = rw is (mod-lt n some)
+
+divide-word-requires : tie.Need-divide-word-requires
+divide-word-requires c κs =
+    let d = c .before .before in
+    let s = d .before .before in
+    let some = lt-of-lt-of-le (pow-pos 63) (s .pre) in
+    let first = ap (λ (q : Quotient). q .remainder) (d .divide-words .ensures) in
+    (⊎-elim (λ w. less _ some (w .4 ∙ w .2 .ensures)) (λ w. less _ some (w .1 ∙ first)) (c .if2 .came), s .pre, d .before .reciprocal .ensures)
+
+cast-t12 : tie.Need-cast-t12
+cast-t12 c = search needs
+
+-- the places of the first turn and of the power are all but the last 64
+with-power : (p : ℕ) → 128 ≤ p → p % 64 + (p - p % 64 - 64) ≡ p - 64
+with-power p h = omega arith
+
+with-none : (p : ℕ) → 64 ≤ p → p < 128 → p % 64 ≡ p - 64
+with-none p l h = omega arith
+
+returns-2 : tie.Need-returns-2
+returns-2 c =
+    let w = c .before in
+    let j = w .before in
+    let d = j .before .before in
+    let s = d .before .before in
     let a = s .args in
     let p = a .places in
-    let two = two-words (a .a) (p % 64) (mod-lt _ (pow-pos 6)) in
-    let e : p - 64 * (p / 64) ≡ p % 64 = omega arith in
-    let r = ap (λ (q : Quotient). q .remainder) (c .divide-words .ensures) in
-    let q = ap (λ (q : Quotient). q .quotient) (c .divide-words .ensures) in
-    (omega arith, omega arith, rw e (r ∙ ap (λ (n : ℕ). n % a .b) two), rw e (q ∙ ap (λ (n : ℕ). n / a .b) two ∙ sym (mod-eq-of-lt (first-small (a .a) (p % 64) (mod-lt _ (pow-pos 6)) (a .b) (s .fits .a .fits) (s .pre)))))
-
-divide-word-requires : tie.Need-divide-word-requires Inv-loop μ-loop
-divide-word-requires c κs =
-    let s = c .before .before .before .before in
-    (rw (c .before .loop .inv .2) (mod-lt _ (lt-of-lt-of-le (pow-pos 63) (s .pre))), s .pre, c .before .before .before .reciprocal .ensures)
-
-add-divisions : tie.Need-add-divisions Inv-loop μ-loop
-add-divisions c = omega arith
-
-sub-left : tie.Need-sub-left Inv-loop μ-loop
-sub-left c = omega arith
-
-loop-less : tie.Need-loop-less Inv-loop μ-loop
-loop-less c = omega arith
-
-loop-again : tie.Need-loop-again Inv-loop μ-loop
-loop-again c =
-    let l = c .before .before .loop in
-    let s = c .before .before .before .before .before in
-    let a = s .args in
-    let n = a .a * 2 ^ (a .places - 64 * l .left) in
-    let some = lt-of-lt-of-le (pow-pos 63) (s .pre) in
-    let e = next-word (a .a) (a .places) (l .left) (omega arith) (omega arith) in
-    let r = ap (λ (q : Quotient). q .remainder) (c .divide-word .ensures) in
-    let q = ap (λ (q : Quotient). q .quotient) (c .divide-word .ensures) in (
-      omega arith,
-      omega arith,
-      rw e (r ∙ ap (λ (m : ℕ). m * 2 ^ 64 % a .b) (l .inv .2) ∙ sym (turn-mod n (a .b) (2 ^ 64) some)),
-      rw e (q ∙ ap (λ (m : ℕ). m * 2 ^ 64 / a .b) (l .inv .2) ∙ sym (turn-low n (a .b) (2 ^ 64) some (pow-pos 64))),
-    )
-
-cast-t13 : tie.Need-cast-t13 Inv-loop μ-loop
-cast-t13 c = omega arith
-
-returns : tie.Need-returns Inv-loop μ-loop
-returns c =
-    let l = c .before .loop in
-    let a = c .before .before .before .before .args in
-    let z : l .left ≡ 0 = omega arith in
-    let e : a .places - 64 * l .left ≡ a .places = omega arith in
-    let r = rw e at (l .inv .2) in
-    let q = rw e at (l .inv .3) in
-    (rw (r, low-half (l .quotient) (a .a * 2 ^ a .places / a .b) q), omega arith)
+    let more : 64 ≤ p = omega (arith, j .before .if1 .left) in
+    let first = ap (λ (q : Quotient). q .remainder) (d .divide-words .ensures ∙ first-word (a .a) (a .b) p) in
+    let rest : j .if2 .rest ≡ a .a * 2 ^ (p - 64) % a .b =
+    ⊎-elim
+    (λ w.
+    w .4 ∙ w .2 .ensures ∙ rest-is (a .a) (a .b) (p % 64) (p - p % 64 - 64) (w .1 .result .power) (d .divide-words .result .remainder) (w .1 .ensures .0 .1) first
+    ∙ ap (λ (e : ℕ). a .a * 2 ^ e % a .b) (with-power p (omega (arith, w .0 .taken))))
+    (λ w. w .1 ∙ first ∙ ap (λ (e : ℕ). a .a * 2 ^ e % a .b) (with-none p more (omega (arith, w .0 .left))))
+    (j .if2 .came)
+    in
+    let divisions : j .if2 .divisions ≡ 1 + turnsOf p =
+    ⊎-elim (λ w. omega (arith, w .5, w .1 .ensures .1, turns-far p (omega (arith, w .0 .taken)))) (λ w. omega (arith, w .2, turns-two p more (omega (arith, w .0 .left)))) (j .if2 .came)
+    in
+    (ap lowOf (w .divide-word .ensures) ∙ last-word (a .a) (a .b) p (j .if2 .rest) (lt-of-lt-of-le (pow-pos 63) (s .pre)) more rest, divisions)
 
 pub divide-turns-spec : {M : Type 1} → statement M
 divide-turns-spec =
     tie.close
     (tie.spec
-    Inv-loop
-    μ-loop
     reciprocal-requires
     sub-divide-words
     cast-divide-words
@@ -108,11 +130,14 @@ divide-turns-spec =
     cast-divide-words-2
     shl-divide-words
     divide-words-requires
-    loop-holds
-    divide-word-requires
+    cast-t19
+    returns
+    sub-power-of-two
+    sub-power-of-two-2
+    power-of-two-requires
+    multiplied-requires
     add-divisions
-    sub-left
-    loop-less
-    loop-again
-    cast-t13
-    returns)
+    add-divisions-2
+    divide-word-requires
+    cast-t12
+    returns-2)
