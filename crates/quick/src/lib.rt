@@ -145,12 +145,11 @@ fn settle(kind: Kind, negative: bool, left: Divided, divisor: u64) -> Settled
         },
         Kind::Nearest => {
             let up = rounds_up(kind, quotient, rest, divisor);
-            let sign = if up { !negative } else { negative };
-            let nearest = if up { divisor - rest } else { rest };
             let next: u32 = if up { 1 } else { 0 };
+            let taken = next as u64;
             Settled {
-                negative: sign,
-                rest: nearest,
+                negative: negative ^ up,
+                rest: rest * (1 - taken) + (divisor - rest) * taken,
                 quotient: wrapping_add_u32(quotient, next),
             }
         }
