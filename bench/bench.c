@@ -16,8 +16,11 @@
 #include <string.h>
 #include <time.h>
 
-/* WORST_ROUNDS is at most ROUNDS: both share their room. */
-enum { N = 4096, REPEATS = 128, ROUNDS = 31, WORST_ROUNDS = 5 };
+/*
+ * One call is timed on N pairs, so many that a processor cannot learn the branches of all of them. WORST_ROUNDS is at most ROUNDS: both
+ * share their room.
+ */
+enum { N = 65536, LIST = 4096, REPEATS = 128, ROUNDS = 15, WORST_ROUNDS = 5 };
 
 /* A list has one divisor, the last one of y. */
 struct operands {
@@ -44,7 +47,7 @@ static const struct row rows[] = {
 enum { ROWS = sizeof rows / sizeof *rows };
 
 /* How many elements a call gets: 1 is one remainder a call, the others are lists. */
-static const size_t lengths[] = {1, N, 32, 8};
+static const size_t lengths[] = {1, LIST, 32, 8};
 
 enum { LENGTHS = sizeof lengths / sizeof *lengths };
 
@@ -84,8 +87,8 @@ static void fill_gaps(struct operands *o, const struct row *row) {
     }
 }
 
-static void fill(struct operands *o, const struct row *row) {
-    o->n = N;
+static void fill(struct operands *o, const struct row *row, size_t n) {
+    o->n = n;
     if (row->field == 0)
         fill_angles(o);
     else
@@ -116,7 +119,7 @@ static void fill_worst(struct operands *o, int set) {
     static const struct row widest = {"", 2045, 2045, 1};
     uint64_t state = 2, digits;
     size_t i;
-    o->n = set < PAIRS ? REPEATS : N;
+    o->n = set < PAIRS ? REPEATS : LIST;
     if (set < PAIRS)
         fill_pair(o, set);
     else
@@ -197,7 +200,7 @@ static void compare(uint32_t kind, const struct operands *o, const char *row, si
             all->compared += t.compared;
             if (peers[p].exact)
                 all->wrong += t.wrong;
-            else if (length == N)
+            else if (length == LIST)
                 printf("%s, %s, %s: %ld of %ld answers are wrong, %ld of them NaNs\n", peers[p].name, kind_name(kind), row, t.wrong,
                        t.compared, t.nans);
         }
@@ -209,9 +212,10 @@ static int agree(void) {
     int k, l, r, set;
     for (k = 0; k < 2; k++) {
         for (r = 0; r < ROWS; r++) {
-            fill(&o, &rows[r]);
-            for (l = 0; l < LENGTHS; l++)
+            for (l = 0; l < LENGTHS; l++) {
+                fill(&o, &rows[r], lengths[l] == 1 ? N : LIST);
                 compare(kinds[k], &o, rows[r].name, lengths[l], &all);
+            }
         }
         for (set = 0; set < SETS; set++) {
             fill_worst(&o, set);
@@ -291,7 +295,7 @@ static void print_row(uint32_t kind, const struct row *row, size_t length) {
     static double times[MOST_PEERS][ROUNDS];
     int p, count;
     const struct peer *peers = peers_of(kind, &count);
-    fill(&o, row);
+    fill(&o, row, length == 1 ? N : LIST);
     time_rounds(kind, &o, length, ROUNDS, 4e6, times);
     printf("%-10s %10.1f", row->name, median(times[0], ROUNDS));
     for (p = 1; p < count; p++)
@@ -349,12 +353,12 @@ static int count_passes(void) {
         for (k = 0; k < 2; k++) {
             const struct peer *peers = peers_of(kinds[k], &count);
             for (r = 0; r < ROWS; r++) {
-                fill(&o, &rows[r]);
+                fill(&o, &rows[r], LIST);
                 for (p = 0; p < count; p++)
                     if (takes(&peers[p], lengths[l])) {
                         measured(&peers[p], &o, lengths[l], &a);
                         printf("%s, %s\t%s\t%s\t%d\n", l == 0 ? "one call" : "lists of 4096", kind_name(kinds[k]), rows[r].name,
-                               peers[p].name, N);
+                               peers[p].name, LIST);
                     }
             }
         }
