@@ -101,6 +101,7 @@ page docs/PROOF.md 's/^- \[1[.]2\]/- [1.99]/' 'has no sentence 1.99$'
 page docs/SCOPE.md '0,/^2[.] /s/^2[.] /99. /' 'has no sentence 1.2$'
 page include/zukemoriha.h 's/ZK_VERSION "/&9/' 'different versions$'
 page crates/export_fold/src/lib.rt '/^    ensures number/i\    requires { }' '^crates/export_fold/src/lib.rt: a host would have to look first$'
+page crates/packing/src/pack.rt 's/^    let kept = trim/    while false {}\n&/' 'other loops: crates/division/src/turns.rt crates/packing/src/pack.rt $'
 
 echo "$controls controls, $missed not noticed"
 [ $missed -eq 0 ]

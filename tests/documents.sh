@@ -2,7 +2,8 @@
 # What the documents name is there, and the crate's version is the header's: every edit in the list of its crate in docs/PROOF.md and no
 # other, every theorem that its sections 2 and 3 name, every crate in docs/ARCHITECTURE.md and, with its number of edits, in docs/GATE.md,
 # every file that a link or a path of a page speaks of, and every sentence of docs/SCOPE.md that a comment or a page points at. And no
-# function of the files that docs/PROOF.md names for [1.2] asks anything of its caller, but for private helpers.
+# function of the files that docs/PROOF.md names for [1.2] asks anything of its caller, but for private helpers, and no crate that a
+# binary64 remainder runs has another loop than the one that docs/PROOF.md names for [3.10].
 # documents.sh [FOLDER]    the repository's, or a copy's
 set -eu
 unset CDPATH
@@ -56,6 +57,13 @@ for file in $(find $called -name '*.rt'); do
     awk '/^pub (extern "C" )?fn / { host = 1 } /^{/ { host = 0 } host && /^ *requires/ { print FILENAME ": a host would have to look first"; bad = 1 }
         END { exit bad }' "$file" || wrong=1
 done
+# [3.10] what a binary64 remainder runs: the crate of its export and all below it
+crates=export_remainder
+for round in 1 2 3 4 5 6 7 8 9; do
+    crates=$({ printf '%s\n' $crates; for crate in $crates; do sed -n "s/^$crate://p" crates.txt; done; } | tr ' ' '\n' | grep . | sort -u)
+done
+loops=$(for crate in $crates; do find crates/$crate -name '*.rt'; done | xargs grep -HE '^ *(while|for|loop) ' | cut -d: -f1 | tr '\n' ' ')
+[ "$loops" = 'crates/division/src/turns.rt ' ] || say "docs/PROOF.md: a binary64 remainder has other loops: $loops"
 [ "$(sed -n 's/^version = //p' rust/zukemoriha/Cargo.toml)" = "$(sed -n 's/^#define ZK_VERSION //p' include/zukemoriha.h)" ] ||
     say 'the Rust crate and the header are of different versions'
 [ $wrong -eq 0 ] && echo 'what the documents name is there'

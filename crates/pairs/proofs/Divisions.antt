@@ -55,7 +55,7 @@ module _ (f : Format) where
   classes-within (finite v) (infinite m) = rw by-unbounded zero-le
   classes-within (finite v) (finite w) = values-within v w (eqb (v .count) 0) (eqb (w .count) 0) refl refl
 
--- [12.2] the count is of the patterns as they are given, and so is the gap
+-- [3.9] count and gap are those of the patterns as they are given
 pub few-divisions : (f : Format) (x y : ℕ) → divisions f x y ≤ gapOf (classOf f x) (classOf f y) / 11 + 2
 unfolding divisions
 few-divisions f x y = classes-within f (classOf f x) (classOf f y)
