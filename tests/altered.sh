@@ -102,6 +102,7 @@ page docs/SCOPE.md '0,/^2[.] /s/^2[.] /99. /' 'has no sentence 1.2$'
 page include/zukemoriha.h 's/ZK_VERSION "/&9/' 'different versions$'
 page crates/export_fold/src/lib.rt '/^    ensures number/i\    requires { }' '^crates/export_fold/src/lib.rt: a host would have to look first$'
 page crates/packing/src/pack.rt 's/^    let kept = trim/    while false {}\n&/' 'other loops: crates/division/src/turns.rt crates/packing/src/pack.rt $'
+page crates/division/src/turns.rt 's/^    divide_words(high/    divide_words(x, y, b, v);\n&/' 'turns.rt calls divide_words 3 times, not 2$'
 
 echo "$controls controls, $missed not noticed"
 [ $missed -eq 0 ]

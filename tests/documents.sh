@@ -3,7 +3,8 @@
 # other, every theorem that its sections 2 and 3 name, every crate in docs/ARCHITECTURE.md and, with its number of edits, in docs/GATE.md,
 # every file that a link or a path of a page speaks of, and every sentence of docs/SCOPE.md that a comment or a page points at. And no
 # function of the files that docs/PROOF.md names for [1.2] asks anything of its caller, but for private helpers, and no crate that a
-# binary64 remainder runs has another loop than the one that docs/PROOF.md names for [3.10].
+# binary64 remainder runs has another loop than the one that docs/PROOF.md names for [3.10], or calls what divides more often than its
+# section 5 says.
 # documents.sh [FOLDER]    the repository's, or a copy's
 set -eu
 unset CDPATH
@@ -63,6 +64,14 @@ for round in 1 2 3 4 5 6 7 8 9; do
     crates=$({ printf '%s\n' $crates; for crate in $crates; do sed -n "s/^$crate://p" crates.txt; done; } | tr ' ' '\n' | grep . | sort -u)
 done
 loops=$(for crate in $crates; do find crates/$crate -name '*.rt'; done | xargs grep -HE '^ *(while|for|loop) ' | cut -d: -f1 | tr '\n' ' ')
+# [3.9] the calls that divide, as often as section 5 says
+awk -F'|' '/^  [|] `crates/ { gsub(/[`,]/, "", $2); gsub(/[`,]/, "", $3); n = split($3, word, " "); split($2, file, " ")
+    for (i = 1; i < n; i += 2) print file[1], word[i], word[i + 1] }' docs/PROOF.md > "$listed"
+[ -s "$listed" ] || say 'docs/PROOF.md has no table of calls that divide'
+while read -r file name times; do
+    found=$(grep -vE '^ *(//|use |pub fn |fn )' "$file" | grep -oE "(^|[^a-z0-9_])$name[(]" | wc -l)
+    [ "$found" -eq "$times" ] || say "$file calls $name $found times, not $times"
+done < "$listed"
 [ "$loops" = 'crates/division/src/turns.rt ' ] || say "docs/PROOF.md: a binary64 remainder has other loops: $loops"
 [ "$(sed -n 's/^version = //p' rust/zukemoriha/Cargo.toml)" = "$(sed -n 's/^#define ZK_VERSION //p' include/zukemoriha.h)" ] ||
     say 'the Rust crate and the header are of different versions'

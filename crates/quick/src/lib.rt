@@ -1,7 +1,7 @@
-// The common case of the binary64 remainder: both operands normal, and the dividend's field not below the divisor's. The general way takes
-// any pattern of any format apart and puts one together; here the places are constants, and neither operand needs to be judged or
-// normalised. It takes a third of the instructions. Everything else goes the general way.
-// Only crates of this repository call these.
+// The remainder of two normal numbers of binary64. In the common case the dividend's field is not below the divisor's; and where it lies so
+// far below that the quotient is zero, the dividend is kept. The general way takes any pattern of any format apart and puts one together;
+// here the places are constants, and nothing has to be judged or normalised: it takes a third of the instructions.
+// Everything else goes the general way. Only crates of this repository call these.
 use definitions::Kind;
 use division::Counted;
 use division::Divided;

@@ -74,7 +74,7 @@ pub fn divide_by_counted(shape: Shape, x: Operand, y: Divisor, kind: Kind) -> Re
     }
 }
 
-// A list judges its divisor once, and counts nothing.
+// The same without the count: a list judges its divisor once.
 pub fn divide_by(shape: Shape, x: Operand, y: Divisor, kind: Kind) -> Residue
     requires { ⌜ Sound (formatOf shape) × StandsValue (formatOf shape) x × StandsDivisor (formatOf shape) y ⌝ }
     ensures value { λ r. ⌜ joined (r .value) ≡ patternOf (formatOf shape) (finite (finish kind (divisorIn (shape .smallest) y) (valueOperand (shape .smallest) x) .value)) ⌝ }

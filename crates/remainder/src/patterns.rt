@@ -21,12 +21,13 @@ use quick::remainder_common;
 use quick::remainder_kept;
 ghost use mathlib.Core.Path.{_≡_};
 ghost use mathlib.Core.Bool.{false};
-ghost use Rattle.definitions.specs.Format.{binary16, binary32, binary64, x87, words};
+ghost use Prim.Native.Nat.{_+_, _/_, _≤_};
+ghost use Rattle.definitions.specs.Format.{binary16, binary32, binary64, x87, words, classOf};
 ghost use Rattle.definitions.specs.Facts.{toldDenormal};
 ghost use Rattle.definitions.specs.Remainder.{remainder};
 ghost use Rattle.definitions.specs.Answers.{remainderMeaning};
 ghost use Rattle.definitions.specs.declared.RemainderAnswer.the-variants.{Finished};
-ghost use Rattle.pairs.specs.Divisions.{divisions};
+ghost use Rattle.pairs.specs.Divisions.{divisions, gapOf};
 
 pub fn remainder16(x: u16, y: u16, kind: Kind) -> RemainderTold
     ensures answer { λ r. ⌜ remainderMeaning (r .answer) ≡ remainder binary16 kind x y ⌝ }
@@ -104,6 +105,7 @@ pub fn remainder64_counted(x: u64, y: u64, kind: Kind) -> ToldCounted
     ensures answer { λ r. ⌜ remainderMeaning (r .told .answer) ≡ remainder binary64 kind x y ⌝ }
     ensures denormal { λ r. ⌜ r .told .denormal ≡ toldDenormal binary64 (remainder binary64 kind x y .number) x y ⌝ }
     ensures divisions { λ r. ⌜ r .divisions ≡ divisions binary64 x y ⌝ }
+    ensures few { λ r. ⌜ r .divisions ≤ gapOf (classOf binary64 x) (classOf binary64 y) / 11 + 2 ⌝ }
 {
     if is_below(x, y) {
         if is_kept(x, y, kind) {

@@ -1,13 +1,21 @@
 -- `remainder64_counted` meets its contract: two normal numbers by their own ways, and any two patterns by the general one. Assumes nothing.
-use mathlib.Core.Path.{sym, _∙_}
+use mathlib.Core.Path.{_≡_, sym, _∙_}
+use Prim.Native.Nat.{ℕ, _+_, _/_, _≤_}
 use native.Mathlib.Nat.{lt-of-lt-of-le}
 use native.Mathlib.Omega.{arith}
+use Rattle.definitions.specs.Format.{binary64, classOf}
+use Rattle.pairs.specs.Divisions.{divisions, gapOf}
+use Rattle.pairs.proofs.Divisions.{few-divisions}
 use Rattle.quick.proofs.Normals.{fields}
 use Rattle.quick.proofs.Below.{below}
 use Rattle.remainder.proofs.OfPatterns.{normals-answer, normals-denormal}
 use borrow.Author.Needs.{needs}
 use Rattle.remainder.proofs.patterns.remainder64_counted.Statement.{statement}
 use Rattle.remainder.proofs.patterns.remainder64_counted.Tie as tie
+
+-- the count, and its bound
+counted : (x y n : ℕ) → n ≡ divisions binary64 x y → (n ≡ divisions binary64 x y) × (n ≤ gapOf (classOf binary64 x) (classOf binary64 y) / 11 + 2)
+counted x y n e = (e, rw e (few-divisions binary64 x y))
 
 is-below-requires : tie.Need-is-below-requires
 is-below-requires c κs = search needs
@@ -29,14 +37,17 @@ returns c =
     let a = k .before .before .before .before .args in
     let f = below (a .kind) (a .x) (a .y) (sym (k .before .is-kept .ensures) ∙ k .if2 .taken) in (
       normals-answer (a .kind) (a .x) (a .y) (q .result .value) (q .result .quotient) (t .result .told .answer) (t .ensures .0) (q .ensures .0),
-      (t .ensures .1 .0 ∙ normals-denormal (a .kind) (a .x) (a .y) (f .some) (omega arith), t .ensures .1 .1 ∙ q .ensures .1),
+      (t .ensures .1 .0 ∙ normals-denormal (a .kind) (a .x) (a .y) (f .some) (omega arith), counted (a .x) (a .y) _ (t .ensures .1 .1 ∙ q .ensures .1)),
     )
 
 remainder64-general-requires : tie.Need-remainder64-general-requires
 remainder64-general-requires c κs = search needs
 
 returns-2 : tie.Need-returns-2
-returns-2 c = search needs
+returns-2 c =
+    let e = c .remainder64-general .ensures in
+    let a = c .before .before .before .before .before .args in
+    (e .0, (e .1 .0, counted (a .x) (a .y) _ (e .1 .1)))
 
 is-common-requires : tie.Need-is-common-requires
 is-common-requires c κs = search needs
@@ -55,14 +66,17 @@ returns-3 c =
     let a = k .before .before .before .before .args in
     let f = fields (a .x) (a .y) (sym (k .before .is-common .ensures) ∙ k .if3 .taken) in (
       normals-answer (a .kind) (a .x) (a .y) (q .result .value) (q .result .quotient) (t .result .told .answer) (t .ensures .0) (q .ensures .0),
-      (t .ensures .1 .0 ∙ normals-denormal (a .kind) (a .x) (a .y) (lt-of-lt-of-le (f .some) (f .order)) (f .some), t .ensures .1 .1 ∙ q .ensures .1),
+      (t .ensures .1 .0 ∙ normals-denormal (a .kind) (a .x) (a .y) (lt-of-lt-of-le (f .some) (f .order)) (f .some), counted (a .x) (a .y) _ (t .ensures .1 .1 ∙ q .ensures .1)),
     )
 
 remainder64-general-requires-2 : tie.Need-remainder64-general-requires-2
 remainder64-general-requires-2 c κs = search needs
 
 returns-4 : tie.Need-returns-4
-returns-4 c = search needs
+returns-4 c =
+    let e = c .remainder64-general2 .ensures in
+    let a = c .before .before .before .before .before .args in
+    (e .0, (e .1 .0, counted (a .x) (a .y) _ (e .1 .1)))
 
 pub remainder64-counted-spec : {M : Type 1} → statement M
 remainder64-counted-spec =
