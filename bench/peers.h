@@ -19,7 +19,7 @@ struct peer {
 
 enum { MOST_PEERS = 8 };
 
-/* Looks up what is known at run time only; 0 where the C library has no fmod or remainder. Once, before the other one. */
+/* Looks up what is known at run time only, and is to be called once, before peers_of; 0 where the C library has no fmod or remainder. */
 int find_peers(void);
 
 /* The peers of a kind, ZK_TRUNCATED or ZK_NEAREST, and how many. */

@@ -11,7 +11,7 @@ ghost use mathlib.Core.Path.{_≡_};
 ghost use Prim.Native.Nat.{_+_, _*_, _%_, _^_, _≤_, _<_};
 ghost use Rattle.division.specs.Divided.{dividedOf};
 
-// n × 2^shift in divisors m, and what is left, which may be one divisor more than it should. x is 2^85 / m, cut; the bits of n that are
+// n × 2^shift in divisors m, and what is left, which may be one divisor more than it should. x is (2^85 - 1) / m, cut; the bits of n that are
 // spare are filled first, so that none of the product is lost.
 fn digit(n: u64, spare: u32, shift: u32, m: u64, x: u64) -> Quotient
     requires { ⌜ (n * 2 ^ spare < 2 ^ 64) × (shift ≤ 21 + spare) × (spare < 32) × (n * 2 ^ shift ≤ 2 ^ 85) × (x * m ≤ 2 ^ 85) × (2 ^ 85 ≤ x * m + m) × (m < 2 ^ 53) ⌝ }

@@ -92,7 +92,7 @@ fn settle_below(kind: Kind, x: Unpacked, y: Unpacked, d: i32) -> Left
     }
 }
 
-// The same with the divisions by the divisor's significand.
+// `Left`, with the divisions by the divisor's significand.
 pub struct LeftCounted {
     pub left: Left,
     pub divisions: u32,

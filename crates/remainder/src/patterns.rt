@@ -53,7 +53,7 @@ pub fn remainder32(x: u32, y: u32, kind: Kind) -> RemainderTold
     }
 }
 
-// The same with the divisions by the divisor's significand.
+// What is told of a binary64 remainder, with the divisions by the divisor's significand.
 pub struct ToldCounted {
     pub told: RemainderTold,
     pub divisions: u32,
