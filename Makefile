@@ -57,7 +57,7 @@ cargo = env $(addprefix -u ,$(unset)) CARGO_TARGET_DIR=../$(out)/rust ZUKEMORIHA
 help: ## this list
 	@sed -n 's/^\([a-z-]*\):.*## \(.*\)/  make \1\t\2/p' $(firstword $(MAKEFILE_LIST)) | expand -t 22
 
-run: ## prove and build the line program, and run it on its sample (a minute)
+run: ## prove and build the line program, and run it on its sample (two minutes)
 	rt check remainder_lines
 	target/bin/remainder_lines < examples/lines.in | tee target/lines.out
 	@diff examples/lines.out target/lines.out

@@ -64,6 +64,8 @@ for round in 1 2 3 4 5 6 7 8 9; do
     crates=$({ printf '%s\n' $crates; for crate in $crates; do sed -n "s/^$crate://p" crates.txt; done; } | tr ' ' '\n' | grep . | sort -u)
 done
 loops=$(for crate in $crates; do find crates/$crate -name '*.rt'; done | xargs grep -HE '^[^/]*\b(while|loop)\b|^[^/]*\bfor [a-z_]+ in ' | cut -d: -f1 | tr '\n' ' ')
+recursive=$(for crate in $crates; do find crates/$crate -name '+*'; done)
+[ -z "$recursive" ] || say "docs/PROOF.md: a binary64 remainder has recursion: $recursive"
 # [3.9] the calls that divide, as often as section 5 says
 awk -F'|' '/^  [|] `crates/ { gsub(/[`,]/, "", $2); gsub(/[`,]/, "", $3); n = split($3, word, " "); split($2, file, " ")
     for (i = 1; i < n; i += 2) print file[1], word[i], word[i + 1] }' docs/PROOF.md > "$listed"
