@@ -32,17 +32,17 @@ module _ (p x m n : ℕ) (below : x * m ≤ p) (above : p ≤ x * m + m) (small 
       lt-of-mul-lt-mul-right p {m = n} {n = q * m + m + m} (omega arith)
 
 -- the digit as the code finds it: n is scaled up by its spare bits first
-module _ (n x k s : ℕ) (room : n * 2 ^ k < 2 ^ 64) (shift : s ≤ 21 + k) where
-  pub scaled : n * 2 ^ k % 2 ^ 64 * x / 2 ^ 64 / 2 ^ (21 + k - s) ≡ n * 2 ^ s * x / 2 ^ 85
+module _ (n x k s w : ℕ) (room : n * 2 ^ k < 2 ^ 64) (shift : s ≤ w + k) where
+  pub scaled : n * 2 ^ k % 2 ^ 64 * x / 2 ^ 64 / 2 ^ (w + k - s) ≡ n * 2 ^ s * x / 2 ^ (64 + w)
   scaled =
-      let d = 21 + k - s in
-      let e : 64 + d + s ≡ 85 + k = omega arith in
-      let f : 2 ^ (64 + d) * 2 ^ s ≡ 2 ^ 85 * 2 ^ k = sym (pow-add 2 (64 + d) s) ∙ ap (λ (m : ℕ). 2 ^ m) e ∙ pow-add 2 85 k in
+      let d = w + k - s in
+      let e : 64 + d + s ≡ 64 + w + k = omega arith in
+      let f : 2 ^ (64 + d) * 2 ^ s ≡ 2 ^ (64 + w) * 2 ^ k = sym (pow-add 2 (64 + d) s) ∙ ap (λ (m : ℕ). 2 ^ m) e ∙ pow-add 2 (64 + w) k in
       let g : n * 2 ^ k * x * 2 ^ s ≡ n * 2 ^ s * x * 2 ^ k = regroup n (2 ^ k) (2 ^ s) x in
       ap (λ (m : ℕ). m * x / 2 ^ 64 / 2 ^ d) (mod-eq-of-lt room) ∙ shr-shr (n * 2 ^ k * x) 64 d
       ∙ sym (mul-div-mul-right (n * 2 ^ k * x) (2 ^ (64 + d)) (pow-pos s))
       ∙ (λ i. g i / f i)
-      ∙ mul-div-mul-right (n * 2 ^ s * x) (2 ^ 85) (pow-pos k)
+      ∙ mul-div-mul-right (n * 2 ^ s * x) (2 ^ (64 + w)) (pow-pos k)
     where
       regroup : (n u v x : ℕ) → n * u * x * v ≡ n * v * x * u
       regroup n u v x = omega arith

@@ -48,12 +48,12 @@ returns c =
     let s = h .before in
     let a = s .args in
     let n = a .n * 2 ^ a .shift in
-    let q = n * a .x / 2 ^ 85 in
-    let eq : h .high .result / 2 ^ (21 + a .spare - a .shift) ≡ q =
-    ap (λ (k : ℕ). k / 2 ^ (21 + a .spare - a .shift)) (h .high .ensures) ∙ scaled (a .n) (a .x) (a .spare) (a .shift) (s .pre .0) (s .pre .1)
+    let q = n * a .x / 2 ^ (64 + a .reach) in
+    let eq : h .high .result / 2 ^ (a .reach + a .spare - a .shift) ≡ q =
+    ap (λ (k : ℕ). k / 2 ^ (a .reach + a .spare - a .shift)) (h .high .ensures) ∙ scaled (a .n) (a .x) (a .spare) (a .shift) (a .reach) (s .pre .0) (s .pre .1)
     in
-    let le = near-le (2 ^ 85) (a .x) (a .m) n (s .pre .4) (s .pre .5) (s .pre .3) (pow-pos 85) in
-    let lt = near-lt (2 ^ 85) (a .x) (a .m) n (s .pre .4) (s .pre .5) (s .pre .3) (pow-pos 85) in
+    let le = near-le (2 ^ (64 + a .reach)) (a .x) (a .m) n (s .pre .4) (s .pre .5) (s .pre .3) (pow-pos (64 + a .reach)) in
+    let lt = near-lt (2 ^ (64 + a .reach)) (a .x) (a .m) n (s .pre .4) (s .pre .5) (s .pre .3) (pow-pos (64 + a .reach)) in
     let left = n - q * a .m in
     let is : q * a .m + left ≡ n = add-sub-of-le le in
     let under : left < a .m + a .m = left-under n (q * a .m) (a .m) le lt in

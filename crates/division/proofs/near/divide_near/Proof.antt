@@ -58,7 +58,7 @@ digit-requires c κs =
     let is = ends (a .b) (s .pre .2) in (
       rw (← ends (a .a) (s .pre .1)) (s .fits .a .fits),
       upper-le (c .before) .0,
-      lit< {m = 11} {n = 32} tt,
+      lit< {m = 32} {n = 64} tt,
       shifted-le (a .a / 2 ^ 11) 53 (c .before .if1 .upper) 32 (short (a .a) (s .fits .a .fits)) (upper-le (c .before) .0),
       cut-below (a .b) (a .b / 2 ^ 11) (u .upper-half .result .quotient + 2 ^ 32) is (s .pre .0) (s .fits .b .fits) (x-is u),
       cut-above (a .b) (a .b / 2 ^ 11) (u .upper-half .result .quotient + 2 ^ 32) is (s .pre .0) (s .fits .b .fits) (x-is u),
@@ -82,7 +82,7 @@ digit-requires-2 c κs =
     let r54 = twice-small (c .digit .result .remainder) (a .b / 2 ^ 11) (c .digit .ensures .1) m53 in (
       scaled-word (c .digit .result .remainder) r54,
       upper-le j .2,
-      lit< {m = 10} {n = 32} tt,
+      lit< {m = 31} {n = 64} tt,
       shifted-le (c .digit .result .remainder) 54 (a .places - j .if1 .upper) 31 r54 (upper-le j .2),
       cut-below (a .b) (a .b / 2 ^ 11) (u .upper-half .result .quotient + 2 ^ 32) is (s .pre .0) (s .fits .b .fits) (x-is u),
       cut-above (a .b) (a .b / 2 ^ 11) (u .upper-half .result .quotient + 2 ^ 32) is (s .pre .0) (s .fits .b .fits) (x-is u),
