@@ -1,9 +1,9 @@
 -- Quotient digits that are near, with spare bits above the divisor. Assumes nothing.
 use mathlib.Core.Path.{_≡_, refl, sym, ap, _∙_}
 use Prim.Native.Nat.{ℕ, _+_, _-_, _*_, _/_, _%_, _^_, _≤_, _<_}
-use native.Mathlib.Nat.{mul-le-mul-left, mul-le-mul-right, mul-lt-mul-of-pos-right, le-of-mul-le-mul-right, lt-of-mul-lt-mul-right, div-mul-le-self, lt-div-mul-add, mul-div-mul-right, mod-eq-of-lt, pos-of-ne-zero, mul-assoc}
+use native.Mathlib.Nat.{le-of-lt, mul-le-mul, mul-le-mul-left, mul-le-mul-right, mul-lt-mul-of-pos-right, le-of-mul-le-mul-right, lt-of-mul-lt-mul-right, div-mul-le-self, lt-div-mul-add, mul-div-mul-right, mod-eq-of-lt, pos-of-ne-zero, mul-assoc}
 use native.Mathlib.Omega.{arith}
-use lib.Pow.{pow-add, pow-pos, shr-shr}
+use lib.Pow.{pow-add, pow-mono, pow-pos, shr-shr}
 use Rattle.digits.proofs.Common.{unique-div, unique-mod}
 use Rattle.reciprocals.specs.Reciprocal.{upperOf}
 use Rattle.division.specs.Divided.{dividedOf}
@@ -46,6 +46,10 @@ module _ (n x k s w : ℕ) (room : n * 2 ^ k < 2 ^ 64) (shift : s ≤ w + k) whe
     where
       regroup : (n u v x : ℕ) → n * u * x * v ≡ n * v * x * u
       regroup n u v x = omega arith
+
+-- a number of a few digits, shifted
+pub shifted-le : (n i s j : ℕ) → n < 2 ^ i → s ≤ j → n * 2 ^ s ≤ 2 ^ (i + j)
+shifted-le n i s j h l = rw (pow-add 2 i j) (mul-le-mul (le-of-lt h) (pow-mono l))
 
 -- what is left of a wrapped difference
 pub unwrapped : (r t w p n left : ℕ) → (r + t) % 2 ^ 64 ≡ w → t ≡ p % 2 ^ 64 → w ≡ n % 2 ^ 64 → p + left ≡ n → left < 2 ^ 64 → r < 2 ^ 64 → r ≡ left

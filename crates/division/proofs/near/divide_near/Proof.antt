@@ -2,13 +2,12 @@
 use mathlib.Core.Path.{_≡_, ap, _∙_}
 use mathlib.Core.Logic.{⊎-elim}
 use Prim.Native.Nat.{ℕ, _+_, _-_, _*_, _/_, _%_, _^_, _≤_, _<_}
-use native.Mathlib.Nat.{mul-le-mul, le-of-lt, add-sub-of-le}
+use native.Mathlib.Nat.{add-sub-of-le}
 use native.Mathlib.Omega.{arith}
 use lib.Dec.{lit<}
-use lib.Pow.{pow-add, pow-mono}
 use Rattle.reciprocals.specs.Reciprocal.{upperOf}
 use Rattle.reciprocals.specs.declared.Quotient.{Quotient}
-use Rattle.division.proofs.Digits.{cut-below, cut-above, joined-right, joined-more}
+use Rattle.division.proofs.Digits.{shifted-le, cut-below, cut-above, joined-right, joined-more}
 use Rattle.reciprocals.proofs.Upper.{upper-small, upper-is}
 use borrow.Author.Needs.{needs}
 use Rattle.division.proofs.near.divide_near.Statement.{statement}
@@ -42,10 +41,6 @@ ends n e = omega arith
 
 short : (n : ℕ) → n < 2 ^ 64 → n / 2 ^ 11 < 2 ^ 53
 short n h = omega arith
-
--- a number of a few digits, shifted
-shifted-le : (n i s j : ℕ) → n < 2 ^ i → s ≤ j → n * 2 ^ s ≤ 2 ^ (i + j)
-shifted-le n i s j h l = rw (pow-add 2 i j) (mul-le-mul (le-of-lt h) (pow-mono l))
 
 sub-lower : tie.Need-sub-lower
 sub-lower c = upper-le (c .before) .1

@@ -1,0 +1,3 @@
+pub mod Halved
+pub mod Kept
+pub mod Shown
