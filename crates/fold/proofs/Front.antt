@@ -9,11 +9,9 @@ use native.Mathlib.Omega.{arith}
 use borrow.Author.Tests.{eq-eqb, ne-eqb}
 use lib.ListN.{length, getD, set, take, drop}
 use lib.Seq.{take-all, drop-length}
-use Rattle.definitions.specs.Division.{Divisor}
-use Rattle.definitions.specs.Fold.{bad, badPlaces}
+use Rattle.definitions.specs.Fold.{bad, badPlaces, byteAt}
 use Rattle.definitions.specs.declared.Kind.{Kind}
-use Rattle.fold.specs.Places.{placeBy}
-use Rattle.fold.proofs.OnePlace.{marked}
+use Rattle.laws.proofs.Fold.{marked-bad}
 
 -- f of the first i, then what was there
 abbrev pub front : (ℕ → ℕ) → List ℕ → List ℕ → ℕ → List ℕ
@@ -39,9 +37,9 @@ bad-more (x ∷ xs) zero h = omega arith
 bad-more (x ∷ xs) (suc i) h = omega (arith, bad-more xs i (le-of-suc-le-suc h))
 
 -- the count goes on by one exactly where the byte is 255
-module _ (κ : Kind) (d : Divisor) (xs : List ℕ) (i m : ℕ) (h : i < length xs) (e : m ≡ badPlaces (take i xs)) where
-  pub count-marked : placeBy κ d (getD xs i 0) .byte ≡ 255 → m + 1 ≡ badPlaces (take (i + 1) xs)
-  count-marked b = rw (add-one i, bad-more xs i h, sym (marked κ d (getD xs i 0)) ∙ eq-eqb _ _ b) (omega arith)
+module _ (κ : Kind) (y : ℕ) (xs : List ℕ) (i m : ℕ) (h : i < length xs) (e : m ≡ badPlaces (take i xs)) where
+  pub count-marked : byteAt κ y (getD xs i 0) ≡ 255 → m + 1 ≡ badPlaces (take (i + 1) xs)
+  count-marked b = rw (add-one i, bad-more xs i h, sym (marked-bad κ y (getD xs i 0)) ∙ eq-eqb _ _ b) (omega arith)
 
-  pub count-unmarked : (placeBy κ d (getD xs i 0) .byte ≡ 255 → ⊥) → m ≡ badPlaces (take (i + 1) xs)
-  count-unmarked b = rw (add-one i, bad-more xs i h, sym (marked κ d (getD xs i 0)) ∙ ne-eqb _ _ b) (omega arith)
+  pub count-unmarked : (byteAt κ y (getD xs i 0) ≡ 255 → ⊥) → m ≡ badPlaces (take (i + 1) xs)
+  count-unmarked b = rw (add-one i, bad-more xs i h, sym (marked-bad κ y (getD xs i 0)) ∙ ne-eqb _ _ b) (omega arith)

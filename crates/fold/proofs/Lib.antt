@@ -1,4 +1,5 @@
 pub mod OnePlace
-pub mod OnOperands
+pub mod OfNormals
 pub mod Front
+pub mod Passed
 pub mod Whole

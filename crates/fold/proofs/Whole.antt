@@ -1,21 +1,19 @@
 -- The whole list: its number, and what is left of the lent lists. Assumes nothing.
 use mathlib.Core.Path.{_≡_, refl, sym, _∙_}
 use mathlib.Core.Bool.{false}
-use mathlib.Core.List.{List, map}
+use mathlib.Core.List.{List}
 use Prim.Native.Nat.{ℕ}
 use borrow.Author.Tests.{eq-eqb, ne-eqb}
 use lib.Dec.{eqb}
 use lib.ListN.{length}
 use Rattle.definitions.specs.Format.{classOf, binary64}
 use Rattle.definitions.specs.Numbers.{first}
-use Rattle.definitions.specs.Division.{Divisor, divisorOf}
-use Rattle.definitions.specs.Fold.{Folded, dividingList, badPlaces, foldList}
+use Rattle.definitions.specs.Fold.{Folded, dividingList, foldList}
 use Rattle.definitions.specs.Answers.{refusalNumber}
 use Rattle.definitions.specs.declared.Kind.{Kind}
 use Rattle.definitions.specs.declared.Refusal.the-variants.{BadLength}
 use Rattle.laws.proofs.Fold.{fold-unequal, fold-divisor}
 use Rattle.fold.specs.Places.{Filled}
-use Rattle.fold.proofs.OnePlace.{value-at, byte-at}
 
 module _ (κ : Kind) (y : ℕ) (xs results quotients : List ℕ) where
   abbrev whole : Folded
@@ -47,9 +45,7 @@ module _ (κ : Kind) (y : ℕ) (xs results quotients : List ℕ) where
     pub divisor-refused : (n ≡ 0 → ⊥) → untouched n ≡ whole
     divisor-refused h = refuses n (ne-eqb n 0 h) fits
 
-    pub filled : n ≡ 0 → (d : Divisor) (results' quotients' : List ℕ) (marked : ℕ) → d ≡ divisorOf (classOf binary64 y) → Filled κ d xs results' quotients' marked
+    pub filled : n ≡ 0 → (results' quotients' : List ℕ) (marked : ℕ) → Filled κ y xs results' quotients' marked
         → record { number = n; results = results'; quotients = quotients'; marked = marked } ≡ whole
     unfolding foldList
-    filled z d results' quotients' marked by f =
-        rw (fits, z, f .values, f .bytes, f .count, by)
-        (λ i. record { number = 0; results = map (λ x. value-at κ y x (sym is ∙ z) i) xs; quotients = map (λ x. byte-at κ y x (sym is ∙ z) i) xs; marked = badPlaces xs })
+    filled z results' quotients' marked f = rw (fits, z, f .values, f .bytes, f .count)

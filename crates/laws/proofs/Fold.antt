@@ -72,7 +72,7 @@ module _ (κ : Kind) (y x : ℕ) where
       go (finite v) e u = folded v (remainder binary64 κ x y .quotient) e (rw (e, supported binary64 refl y, d .0, d .1)) (rw e)
 
   -- the mark stands at the bad dividends alone
-  marked-bad : eqb (byteAt κ y x) 255 ≡ bad x
+  pub marked-bad : eqb (byteAt κ y x) 255 ≡ bad x
   unfolding byteAt
   marked-bad = go (bad x) _ (quotient-shown _)
     where

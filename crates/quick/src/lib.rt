@@ -43,14 +43,14 @@ const UNIT: u64 = 4503599627370496;
 
 const SIGN: u64 = 9223372036854775808;
 
-fn field_of(pattern: u64) -> u64
+pub fn field_of(pattern: u64) -> u64
     ensures { λ r. ⌜ r ≡ fieldOf pattern ⌝ }
 {
     pattern / UNIT % 2048
 }
 
 // The significand of a normal number with its leading one at bit 63, so that eleven bits are spare.
-fn spread(pattern: u64) -> u64
+pub fn spread(pattern: u64) -> u64
     ensures { λ r. ⌜ r ≡ spreadOf pattern ⌝ }
 {
     (pattern % UNIT + UNIT) * 2048
@@ -98,7 +98,7 @@ pub fn remainder_kept(x: u64, y: u64, kind: Kind) -> Quick
 }
 
 // The pattern of a significand with eleven spare bits, at the place of a field: its leading zeros come off the field, as far as that goes.
-fn written(negative: bool, significand: u64, field: u64) -> u64
+pub fn written(negative: bool, significand: u64, field: u64) -> u64
     requires { ⌜ (significand % 2 ^ 11 ≡ 0) × (1 ≤ field) × (field < 2047) ⌝ }
     ensures { λ r. ⌜ r ≡ patternOf binary64 (finite (record { negative = negative; count = significand / 2 ^ 11 * 2 ^ (field - 1) })) ⌝ }
 {
@@ -131,7 +131,7 @@ fn divide_quick(a: u64, b: u64, places: u32) -> Counted
 
 // What a division left, settled by the kind. The nearest quotient goes up as often as not: its two answers are chosen between, and not
 // branched to.
-fn settle(kind: Kind, negative: bool, left: Divided, divisor: u64) -> Settled
+pub fn settle(kind: Kind, negative: bool, left: Divided, divisor: u64) -> Settled
     requires { ⌜ left .remainder < divisor ⌝ }
     ensures { λ r. ⌜ r ≡ settledOf (roundsUp kind (left .quotient) (left .remainder) divisor) negative left divisor ⌝ }
 {

@@ -1,13 +1,11 @@
 -- `fold64` meets its contract: each refusal leaves the lent lists, and an accepted list is filled. Assumes nothing.
-use mathlib.Core.Path.{_≡_, sym, ap, _∙_}
+use mathlib.Core.Path.{_≡_, sym, _∙_}
 use mathlib.Core.Logic.{⊎-elim}
 use native.Mathlib.Omega.{arith}
 use lib.ListN.{length}
 use Rattle.definitions.specs.Format.{classOf, binary64}
 use Rattle.definitions.specs.Numbers.{first}
 use Rattle.definitions.specs.Fold.{dividingList}
-use Rattle.operands.specs.Operand.{divisorIn}
-use Rattle.fold.proofs.OnOperands.{pattern-divisor-stands, pattern-divisor-is}
 use Rattle.fold.proofs.Whole.{results-misfit, quotients-misfit, divisor-refused, filled}
 use borrow.Author.Needs.{needs}
 use borrow.Author.Tests.{eqb-true, not-true, not-false}
@@ -53,14 +51,11 @@ returns-2 c =
     let a = e .before .before .before .before .before .args in
     divisor-refused (a .kind) (a .y) (a .x .now) (a .results .now) (a .quotients .now) (fit-results e) (fit-quotients e) (v .verdict-number .result) (number-is v) (λ z. omega arith)
 
-divisor-of-requires : tie.Need-divisor-of-requires
-divisor-of-requires c κs = search needs
-
 fold-places-requires : tie.Need-fold-places-requires
 fold-places-requires c κs =
-    let o = c .before .before .before .before .before .before in
-    let e = o .before in
-    (rw (c .divisor-of .ensures) (pattern-divisor-stands _ (o .of-pattern .result .operand) (o .of-pattern .ensures)), fit-results e, fit-quotients e)
+    let v = c .before .before .before in
+    let e = v .before .before .before in
+    (sym (number-is v) ∙ (omega arith), fit-results e, fit-quotients e)
 
 same-length : tie.Need-same-length
 same-length c = search needs
@@ -71,15 +66,11 @@ same-length-2 c = search needs
 returns-3 : tie.Need-returns-3
 returns-3 c =
     let f = c .before .before .before .before in
-    let d = f .before in
-    let v = d .before .before .before .before in
-    let o = v .before .before in
-    let e = o .before in
+    let v = f .before .before .before .before in
+    let e = v .before .before .before in
     let a = e .before .before .before .before .before .args in
     let z : v .verdict-number .result ≡ 0 = omega arith in
-    filled (a .kind) (a .y) (a .x .now) (a .results .now) (a .quotients .now) (fit-results e) (fit-quotients e) (v .verdict-number .result) (number-is v) z _ _ _ _
-    (ap (divisorIn (binary64 .smallest)) (d .divisor-of .ensures) ∙ pattern-divisor-is _ (o .of-pattern .result .operand) (o .of-pattern .ensures) (sym (number-is v) ∙ z))
-    (f .fold-places .ensures)
+    filled (a .kind) (a .y) (a .x .now) (a .results .now) (a .quotients .now) (fit-results e) (fit-quotients e) (v .verdict-number .result) (number-is v) z _ _ _ (f .fold-places .ensures)
 
 pub fold64-spec : {M : Type 1} → statement M
 fold64-spec =
@@ -91,7 +82,6 @@ fold64-spec =
     judge-divisor-requires
     verdict-number-requires
     returns-2
-    divisor-of-requires
     fold-places-requires
     same-length
     same-length-2
