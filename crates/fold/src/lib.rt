@@ -12,8 +12,8 @@ use checks::verdict_number;
 use definitions::Kind;
 use definitions::Refusal;
 use formats::binary::Binary64;
-use prepared::powers::start;
 use prepared::prepare;
+use quick::field_of;
 use quick::spread;
 ghost use mathlib.Core.Path.{_≡_};
 ghost use lib.ListN.{length};
@@ -51,14 +51,14 @@ fn fold_alone(x: &[u64], results: &mut [u64], quotients: &mut [u8], y: u64, kind
     marked
 }
 
-// The same by a prepared divisor. The table starts with one power, and grows as far as the elements want.
+// The same by a prepared divisor. The table starts with one power, 1, and grows as far as the elements want.
 fn fold_prepared(x: &[u64], results: &mut [u64], quotients: &mut [u8], y: u64, kind: Kind) -> usize
     requires { ⌜ (first (dividingList (classOf binary64 y)) ≡ 0) × (length (now results) ≡ length (now x)) × (length (now quotients) ≡ length (now x)) ⌝ }
     ensures { λ r. ⌜ Filled kind y (now (x .entry)) (now (results .exit)) (now (quotients .exit)) r ⌝ }
 {
     let divisor = prepare(spread(y));
-    let mut table = [0u64; 36];
-    let mut known = start(&mut table, divisor);
+    let mut table = [1u64; 36];
+    let mut known: usize = 1;
     let mut marked: usize = 0;
     let mut i: usize = 0;
     while i < x.len() {
@@ -86,6 +86,18 @@ fn fold_places(x: &[u64], results: &mut [u64], quotients: &mut [u8], y: u64, kin
     fold_prepared(x, results, quotients, y, kind)
 }
 
+// The number of a divisor: 3, 5, or 0. A normal number is neither NaN nor zero.
+fn judge(y: u64) -> u8
+    ensures { λ r. ⌜ r ≡ first (dividingList (classOf binary64 y)) ⌝ }
+{
+    let field = field_of(y);
+    if 0 < field && field < 2047 {
+        return 0;
+    }
+    let divisor = Binary64::of_pattern(y).operand;
+    verdict_number(judge_divisor(divisor))
+}
+
 // The lengths, 9, and the divisor, 3 and 5, are judged once, before anything is written.
 pub fn fold64(
     x: &[u64],
@@ -102,8 +114,7 @@ pub fn fold64(
             marked: 0,
         };
     }
-    let divisor = Binary64::of_pattern(y).operand;
-    let number = verdict_number(judge_divisor(divisor));
+    let number = judge(y);
     if number != 0 {
         return FoldAnswer { number, marked: 0 };
     }

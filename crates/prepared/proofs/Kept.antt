@@ -1,15 +1,22 @@
 -- Powers of two modulo a divisor, kept in a table. Assumes nothing.
-use mathlib.Core.Path.{_≡_, sym, ap, _∙_}
+use mathlib.Core.Path.{_≡_, refl, sym, ap, _∙_}
 use mathlib.Core.List.{List}
 use mathlib.Core.Logic.{⊎-elim}
 use Prim.Native.Nat.{ℕ, _+_, _-_, _*_, _%_, _^_, _≤_, _<_}
 use native.Mathlib.Nat.{eq-or-lt-of-le, ne-of-lt}
 use native.Mathlib.Omega.{arith}
-use lib.ListN.{getD, set, length}
+use lib.ListN.{getD, set, length, replicate}
 use lib.Pow.{pow-add}
 use lib.Seq.{getD-set-same, getD-set-other}
 use Rattle.digits.proofs.Common.{mod-times}
 use Rattle.prepared.specs.Prepared.{Power, Powers}
+
+-- the power of no places is 1
+pub started : (m : ℕ) → 2 ^ 52 ≤ m → Powers m 1 (replicate 36 1)
+started m top = record { room = refl; some = omega arith; fits = omega arith; at = λ j l. first j (omega arith) }
+  where
+    first : (j : ℕ) → j ≡ 0 → Power m j (getD (replicate 36 1) j 0)
+    first j z = rw z (omega arith, refl)
 
 -- 58 places more
 next-is : (m n k p : ℕ) → 0 < n → k % m ≡ 2 ^ (58 * (n - 1)) % m → p % m ≡ k * 2 ^ 58 % m → p % m ≡ 2 ^ (58 * n) % m

@@ -4,7 +4,6 @@ use crate::REACH;
 use division::near::digit;
 ghost use mathlib.Core.Path.{_≡_};
 ghost use Prim.Native.Nat.{_+_, _*_, _%_, _^_, _≤_, _<_};
-ghost use lib.ListN.{length};
 ghost use Rattle.prepared.specs.Prepared.{Fits, Powers, slotOf};
 
 // The power that a number of places starts from: at least four places are left, which tell what is shown of a quotient, and at most 61.
@@ -24,15 +23,6 @@ fn next_power(power: u64, d: Prepared) -> u64
     ensures { λ r. ⌜ (r < d .significand + d .significand) × (r % d .significand ≡ power * 2 ^ 58 % d .significand) ⌝ }
 {
     digit(power, 10, 58, d.significand, d.reciprocal, REACH).remainder
-}
-
-// The power of no places.
-pub fn start(table: &mut [u64; 36], d: Prepared) -> usize
-    requires { ⌜ Fits d × (length (now table) ≡ 36) ⌝ }
-    ensures { λ r. ⌜ Powers (d .significand) r (now (table .exit)) ⌝ }
-{
-    table[0] = 1;
-    1
 }
 
 // The table with the powers up to the wanted one, and how many it holds.

@@ -24,14 +24,8 @@ returns c =
     (λ w. quotients-misfit (a .kind) (a .y) (a .x .now) (a .results .now) (a .quotients .now) (c .number-of .result) (c .number-of .ensures) (w .0 .left) (not-true _ (w .1 .taken)))
     (j .if1 .came)
 
-of-pattern-requires : tie.Need-of-pattern-requires
-of-pattern-requires c κs = search needs
-
-judge-divisor-requires : tie.Need-judge-divisor-requires
-judge-divisor-requires c κs = search needs
-
-verdict-number-requires : tie.Need-verdict-number-requires
-verdict-number-requires c κs = search needs
+judge-requires : tie.Need-judge-requires
+judge-requires c κs = search needs
 
 -- the lists are as long as the dividends
 fit-results : (e : tie.Else2) → let a = e .before .before .before .before .before .args in length (a .results .now) ≡ length (a .x .now)
@@ -40,22 +34,18 @@ fit-results e = e .before .if1 .left
 fit-quotients : (e : tie.Else2) → let a = e .before .before .before .before .before .args in length (a .quotients .now) ≡ length (a .x .now)
 fit-quotients e = eqb-true _ _ (not-false _ (e .if2 .left))
 
--- the number is that of the divisor
-number-is : (v : tie.After-verdict-number) → v .verdict-number .result ≡ first (dividingList (classOf binary64 (v .before .before .before .before .before .before .before .before .args .y)))
-number-is v = let o = v .before .before in v .verdict-number .ensures ∙ v .before .judge-divisor .ensures (binary64 .smallest) _ (o .of-pattern .ensures)
-
 returns-2 : tie.Need-returns-2
 returns-2 c =
     let v = c .before in
-    let e = v .before .before .before in
+    let e = v .before in
     let a = e .before .before .before .before .before .args in
-    divisor-refused (a .kind) (a .y) (a .x .now) (a .results .now) (a .quotients .now) (fit-results e) (fit-quotients e) (v .verdict-number .result) (number-is v) (λ z. omega arith)
+    divisor-refused (a .kind) (a .y) (a .x .now) (a .results .now) (a .quotients .now) (fit-results e) (fit-quotients e) (v .judge .result) (v .judge .ensures) (λ z. omega arith)
 
 fold-places-requires : tie.Need-fold-places-requires
 fold-places-requires c κs =
     let v = c .before .before .before in
-    let e = v .before .before .before in
-    (sym (number-is v) ∙ (omega arith), fit-results e, fit-quotients e)
+    let e = v .before in
+    (sym (v .judge .ensures) ∙ (omega arith), fit-results e, fit-quotients e)
 
 same-length : tie.Need-same-length
 same-length c = search needs
@@ -67,10 +57,10 @@ returns-3 : tie.Need-returns-3
 returns-3 c =
     let f = c .before .before .before .before in
     let v = f .before .before .before .before in
-    let e = v .before .before .before in
+    let e = v .before in
     let a = e .before .before .before .before .before .args in
-    let z : v .verdict-number .result ≡ 0 = omega arith in
-    filled (a .kind) (a .y) (a .x .now) (a .results .now) (a .quotients .now) (fit-results e) (fit-quotients e) (v .verdict-number .result) (number-is v) z _ _ _ (f .fold-places .ensures)
+    let z : v .judge .result ≡ 0 = omega arith in
+    filled (a .kind) (a .y) (a .x .now) (a .results .now) (a .quotients .now) (fit-results e) (fit-quotients e) (v .judge .result) (v .judge .ensures) z _ _ _ (f .fold-places .ensures)
 
 pub fold64-spec : {M : Type 1} → statement M
 fold64-spec =
@@ -78,9 +68,7 @@ fold64-spec =
     (tie.spec
     number-of-requires
     returns
-    of-pattern-requires
-    judge-divisor-requires
-    verdict-number-requires
+    judge-requires
     returns-2
     fold-places-requires
     same-length

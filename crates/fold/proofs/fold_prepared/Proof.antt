@@ -1,10 +1,11 @@
 -- `fold_prepared` meets its contract: the lists are filled from the front, and the table holds the powers that it knows. Assumes nothing.
-use mathlib.Core.Path.{refl, _∙_}
+use mathlib.Core.Path.{_∙_}
 use mathlib.Core.Logic.{⊎-elim}
 use Prim.Native.Nat.{_-_}
 use native.Mathlib.Omega.{arith}
 use lib.ListN.{length}
 use Rattle.prepared.specs.Prepared.{Powers}
+use Rattle.prepared.proofs.Kept.{started}
 use Rattle.fold.proofs.Passed.{Passed, none-passed, all-passed, marked-more, unmarked-more}
 use Rattle.fold.proofs.fold_prepared.Statement.{statement}
 use Rattle.fold.proofs.fold_prepared.Tie as tie
@@ -22,13 +23,12 @@ spread-requires c κs = tt
 prepare-requires : tie.Need-prepare-requires Inv-loop μ-loop
 prepare-requires c κs = (omega (arith, c .spread .ensures), omega (arith, c .spread .ensures))
 
-start-requires : tie.Need-start-requires Inv-loop μ-loop
-start-requires c κs = (c .before .prepare .ensures .1, refl)
-
 loop-holds : tie.Need-loop-holds Inv-loop μ-loop
 loop-holds c =
-    let s = c .before .before .before .before .before .before .before in
-    (none-passed (s .args .kind) (s .args .y) (s .args .x .now) (s .args .results .now) (s .args .quotients .now) (s .pre .1) (s .pre .2), c .start .ensures)
+    let s = c .before .before .before .before .before in (
+      none-passed (s .args .kind) (s .args .y) (s .args .x .now) (s .args .results .now) (s .args .quotients .now) (s .pre .1) (s .pre .2),
+      started (c .prepare .result .significand) (c .prepare .ensures .1 .top),
+    )
 
 mul-dividend : tie.Need-mul-dividend Inv-loop μ-loop
 mul-dividend c = omega arith
@@ -37,11 +37,11 @@ shared-slice-read-dividend : tie.Need-shared-slice-read-dividend Inv-loop μ-loo
 shared-slice-read-dividend c = omega arith
 
 powers-for-requires : tie.Need-powers-for-requires Inv-loop μ-loop
-powers-for-requires c κs = (c .before .before .before .before .before .before .prepare .ensures .1, c .before .before .before .loop .inv .1)
+powers-for-requires c κs = (c .before .before .before .before .prepare .ensures .1, c .before .before .before .loop .inv .1)
 
 place-prepared-requires : tie.Need-place-prepared-requires Inv-loop μ-loop
 place-prepared-requires c κs =
-    let p = c .before .before .before .before .before .before .before .before in
+    let p = c .before .before .before .before .before .before in
     let s = p .before .before .before .before .before in
     (s .pre .0, p .prepare .ensures .0 ∙ p .before .spread .ensures, p .prepare .ensures .1, c .before .powers-for .ensures .0, c .before .powers-for .ensures .1)
 
@@ -66,7 +66,7 @@ loop-less c = omega arith
 loop-again : tie.Need-loop-again Inv-loop μ-loop
 loop-again c =
     let l = c .before .before .before .before .before .before .before .loop in
-    let s = c .before .before .before .before .before .before .before .before .before .before .before .before .before .before .before in
+    let s = c .before .before .before .before .before .before .before .before .before .before .before .before .before in
     let p = c .before .place-prepared in
     let a = s .args in (
       ⊎-elim
@@ -85,7 +85,7 @@ same-length-2 c = omega arith
 returns : tie.Need-returns Inv-loop μ-loop
 returns c =
     let l = c .before .loop in
-    let s = c .before .before .before .before .before .before .before .before .before in
+    let s = c .before .before .before .before .before .before .before in
     let a = s .args in
     all-passed (a .kind) (a .y) (a .x .now) (a .results .now) (a .quotients .now) (s .pre .1) (s .pre .2) _ _ _ _ (l .inv .0) (omega arith)
 
@@ -97,7 +97,6 @@ fold-prepared-spec =
     μ-loop
     spread-requires
     prepare-requires
-    start-requires
     loop-holds
     mul-dividend
     shared-slice-read-dividend
