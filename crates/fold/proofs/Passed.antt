@@ -8,8 +8,9 @@ use lib.ListN.{length, getD, set, take, length-set}
 use lib.Seq.{take-all}
 use Rattle.definitions.specs.Fold.{resultAt, byteAt, badPlaces}
 use Rattle.definitions.specs.declared.Kind.{Kind}
-use Rattle.fold.specs.Places.{placeAt, Filled}
-use Rattle.fold.specs.declared.place.Place.{Place}
+use Rattle.places.specs.Places.{placeAt}
+use Rattle.fold.specs.Filled.{Filled}
+use Rattle.places.specs.declared.Place.{Place}
 use Rattle.fold.proofs.Front.{front, front-more, front-all, count-marked, count-unmarked}
 
 module _ (κ : Kind) (y : ℕ) (xs results₀ quotients₀ : List ℕ) where

@@ -13,7 +13,7 @@ use Rattle.definitions.specs.Answers.{refusalNumber}
 use Rattle.definitions.specs.declared.Kind.{Kind}
 use Rattle.definitions.specs.declared.Refusal.the-variants.{BadLength}
 use Rattle.laws.proofs.Fold.{fold-unequal, fold-divisor}
-use Rattle.fold.specs.Places.{Filled}
+use Rattle.fold.specs.Filled.{Filled}
 
 module _ (κ : Kind) (y : ℕ) (xs results quotients : List ℕ) where
   abbrev whole : Folded

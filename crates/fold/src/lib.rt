@@ -1,17 +1,15 @@
 // Folding of a list of binary64 patterns by one divisor, into lists that the caller lends. A list that is long enough prepares its divisor
 // once, and its elements share the powers of two that they want.
-pub mod place;
-
-use crate::place::MARK;
-use crate::place::place_alone;
-use crate::place::place_prepared;
-use crate::place::powers_for;
 use checks::list::judge_divisor;
 use checks::number_of;
 use checks::verdict_number;
 use definitions::Kind;
 use definitions::Refusal;
 use formats::binary::Binary64;
+use places::MARK;
+use places::place_alone;
+use places::place_prepared;
+use places::powers_for;
 use prepared::prepare;
 use quick::field_of;
 use quick::spread;
@@ -20,7 +18,7 @@ ghost use lib.ListN.{length};
 ghost use Rattle.definitions.specs.Format.{binary64, classOf};
 ghost use Rattle.definitions.specs.Numbers.{first};
 ghost use Rattle.definitions.specs.Fold.{dividingList, foldList};
-ghost use Rattle.fold.specs.Places.{foldMeaning, Filled};
+ghost use Rattle.fold.specs.Filled.{foldMeaning, Filled};
 
 // The number of the whole list, and how many places have a NaN or infinite dividend.
 pub struct FoldAnswer {

@@ -9,8 +9,8 @@ use Rattle.prepared.specs.Prepared.{slotOf}
 use Rattle.quick.specs.Common.{fieldOf, common}
 use Rattle.quick.proofs.Normals.{Fields, fields}
 use borrow.Author.Needs.{needs}
-use Rattle.fold.proofs.place.powers_for.Statement.{statement}
-use Rattle.fold.proofs.place.powers_for.Tie as tie
+use Rattle.places.proofs.powers_for.Statement.{statement}
+use Rattle.places.proofs.powers_for.Tie as tie
 
 is-common-requires : tie.Need-is-common-requires
 is-common-requires c κs = search needs

@@ -13,10 +13,10 @@ use Rattle.quick.specs.Settled.{settledOf}
 use Rattle.quick.specs.declared.Settled.{Settled}
 use Rattle.quick.proofs.Normals.{Fields, fields}
 use Rattle.quick.proofs.Scaled.{settledAnswer}
-use Rattle.fold.proofs.OfNormals.{below, ends, normal-place}
+use Rattle.places.proofs.OfNormals.{below, ends, normal-place}
 use borrow.Author.Needs.{needs}
-use Rattle.fold.proofs.place.place_common.Statement.{statement}
-use Rattle.fold.proofs.place.place_common.Tie as tie
+use Rattle.places.proofs.place_common.Statement.{statement}
+use Rattle.places.proofs.place_common.Tie as tie
 
 field-of-requires : tie.Need-field-of-requires
 field-of-requires c κs = search needs

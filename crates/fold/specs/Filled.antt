@@ -5,11 +5,6 @@ use mathlib.Core.List.{List, map}
 use Rattle.definitions.specs.Fold.{Folded, resultAt, byteAt, badPlaces}
 use Rattle.definitions.specs.declared.Kind.{Kind}
 use Rattle.fold.specs.declared.FoldAnswer.{FoldAnswer}
-use Rattle.fold.specs.declared.place.Place.{Place}
-
--- what the place of the dividend x gets, by the divisor y
-abbrev pub placeAt : Kind → ℕ → ℕ → Place
-placeAt κ y x = record { value = resultAt κ y x; byte = byteAt κ y x }
 
 -- every place of both lists written, and the marked ones counted
 pub record Filled (κ : Kind) (y : ℕ) (xs results quotients : List ℕ) (marked : ℕ) : Type 0 where

@@ -20,8 +20,8 @@ use Rattle.quick.specs.Settled.{settledOf}
 use Rattle.quick.specs.declared.Settled.{Settled}
 use Rattle.quick.proofs.Normals.{Fields, dividend}
 use Rattle.quick.proofs.Scaled.{told, settledAnswer, left-ends, left-answer}
-use Rattle.fold.specs.Places.{placeAt}
-use Rattle.fold.proofs.OnePlace.{placed}
+use Rattle.places.specs.Places.{placeAt}
+use Rattle.places.proofs.OnePlace.{placed}
 
 -- the decision looks at the quotient's last digit only, which three bits keep
 up-shown : (κ : Kind) (q r m : ℕ) → roundsUp κ (q % 8) r m ≡ roundsUp κ (q % 2 ^ 32) r m

@@ -1,8 +1,8 @@
 -- `place_alone` meets its contract: a refusal is a mark. Assumes nothing.
-use Rattle.fold.proofs.OnePlace.{finished, refused}
+use Rattle.places.proofs.OnePlace.{finished, refused}
 use borrow.Author.Needs.{needs}
-use Rattle.fold.proofs.place.place_alone.Statement.{statement}
-use Rattle.fold.proofs.place.place_alone.Tie as tie
+use Rattle.places.proofs.place_alone.Statement.{statement}
+use Rattle.places.proofs.place_alone.Tie as tie
 
 remainder64-requires : tie.Need-remainder64-requires
 remainder64-requires c κs = search needs

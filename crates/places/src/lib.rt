@@ -1,4 +1,4 @@
-// One place of a list, by a divisor that is neither NaN nor zero.
+// One place of a folded list, by a divisor that is neither NaN nor zero. Only crates of this repository call these.
 use definitions::Kind;
 use definitions::RemainderAnswer;
 use prepared::Prepared;
@@ -20,7 +20,7 @@ ghost use Rattle.definitions.specs.Numbers.{first};
 ghost use Rattle.definitions.specs.Fold.{dividingList};
 ghost use Rattle.prepared.specs.Prepared.{Fits, Powers, slotOf};
 ghost use Rattle.quick.specs.Common.{fieldOf, spreadOf, common};
-ghost use Rattle.fold.specs.Places.{placeAt};
+ghost use Rattle.places.specs.Places.{placeAt};
 
 // What one place of the two lent lists gets.
 pub struct Place {

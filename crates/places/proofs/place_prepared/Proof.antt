@@ -1,8 +1,8 @@
 -- `place_prepared` meets its contract. Assumes nothing.
 use mathlib.Core.Path.{_≡_, sym, _∙_}
 use borrow.Author.Needs.{needs}
-use Rattle.fold.proofs.place.place_prepared.Statement.{statement}
-use Rattle.fold.proofs.place.place_prepared.Tie as tie
+use Rattle.places.proofs.place_prepared.Statement.{statement}
+use Rattle.places.proofs.place_prepared.Tie as tie
 
 is-common-requires : tie.Need-is-common-requires
 is-common-requires c κs = search needs

@@ -21,8 +21,8 @@ use Rattle.definitions.proofs.Refusals.{supported}
 use Rattle.laws.proofs.Regular.{regular64}
 use Rattle.laws.proofs.Small.{remainder-small}
 use Rattle.checks.proofs.Judged.{AcceptedDivisor, accepted-divisor}
-use Rattle.fold.specs.Places.{placeAt}
-use Rattle.fold.specs.declared.place.Place.{Place}
+use Rattle.places.specs.Places.{placeAt}
+use Rattle.places.specs.declared.Place.{Place}
 
 -- a place of both lists
 pub placed : (κ : Kind) (y x v b : ℕ) → v ≡ resultAt κ y x → b ≡ byteAt κ y x → _≡_ {A = Place} (record { value = v; byte = b }) (placeAt κ y x)
