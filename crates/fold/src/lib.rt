@@ -58,18 +58,18 @@ fn fold_prepared(x: &[u64], results: &mut [u64], quotients: &mut [u8], y: u64, k
     let mut table = [1u64; 36];
     let mut known: usize = 1;
     let mut marked: usize = 0;
-    let mut i: usize = 0;
-    while i < x.len() {
-        let dividend = x[i];
+    let mut at: usize = 0;
+    while at < x.len() {
+        let dividend = x[at];
         known = powers_for(dividend, y, divisor, &mut table, known);
         let place = place_prepared(dividend, y, kind, divisor, &table, known);
-        let byte = place.byte;
-        results[i] = place.value;
-        quotients[i] = byte;
-        if byte == MARK {
+        let shown = place.byte;
+        results[at] = place.value;
+        quotients[at] = shown;
+        if shown == MARK {
             marked += 1;
         }
-        i += 1;
+        at += 1;
     }
     marked
 }

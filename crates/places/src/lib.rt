@@ -45,8 +45,8 @@ pub fn place_alone(x: u64, y: u64, kind: Kind) -> Place
             value: value.low,
             byte: shown_bits(quotient),
         },
-        RemainderAnswer::Refused { value, .. } => Place {
-            value: value.low,
+        RemainderAnswer::Refused { value: marked, .. } => Place {
+            value: marked.low,
             byte: MARK,
         },
     }

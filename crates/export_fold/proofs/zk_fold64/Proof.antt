@@ -2,7 +2,7 @@
 use mathlib.Core.Path.{_≡_}
 use Rattle.definitions.specs.Fold.{foldList}
 use Rattle.definitions.specs.Block.{kindOf}
-use Rattle.fold.specs.Places.{foldMeaning}
+use Rattle.fold.specs.Filled.{foldMeaning}
 use Rattle.export_fold.proofs.Written.{fold-number, refused, folded}
 use borrow.Author.Needs.{needs}
 use Rattle.export_fold.proofs.zk_fold64.Statement.{statement}

@@ -11,11 +11,11 @@ use Rattle.fold.proofs.fold_prepared.Statement.{statement}
 use Rattle.fold.proofs.fold_prepared.Tie as tie
 
 abbrev Inv-loop : tie.InvT-loop
-Inv-loop x results₀ quotients₀ y kind divisor table₀ known₀ marked₀ i₀ results quotients table known marked i =
-    Passed kind y x results₀ quotients₀ results quotients marked i × Powers (divisor .significand) known table
+Inv-loop x results₀ quotients₀ y kind divisor table₀ known₀ marked₀ at₀ results quotients table known marked at =
+    Passed kind y x results₀ quotients₀ results quotients marked at × Powers (divisor .significand) known table
 
 abbrev μ-loop : tie.MeasureT-loop
-μ-loop x results₀ quotients₀ y kind divisor table₀ known₀ marked₀ i₀ results quotients table known marked i = length x - i
+μ-loop x results₀ quotients₀ y kind divisor table₀ known₀ marked₀ at₀ results quotients table known marked at = length x - at
 
 spread-requires : tie.Need-spread-requires Inv-loop μ-loop
 spread-requires c κs = tt
@@ -57,8 +57,8 @@ slice-write-quotients c = omega arith
 add-marked : tie.Need-add-marked Inv-loop μ-loop
 add-marked c = omega arith
 
-add-i : tie.Need-add-i Inv-loop μ-loop
-add-i c = omega arith
+add-at : tie.Need-add-at Inv-loop μ-loop
+add-at c = omega arith
 
 loop-less : tie.Need-loop-less Inv-loop μ-loop
 loop-less c = omega arith
@@ -70,8 +70,8 @@ loop-again c =
     let p = c .before .place-prepared in
     let a = s .args in (
       ⊎-elim
-          (λ w. rw (w .1) (marked-more (a .kind) (a .y) (a .x .now) (a .results .now) (a .quotients .now) (s .pre .1) (s .pre .2) (l .results) (l .quotients) (l .marked) (l .i) (l .inv .0) (omega arith) (p .result) (p .ensures) (w .0 .taken)))
-          (λ w. rw (w .1) (unmarked-more (a .kind) (a .y) (a .x .now) (a .results .now) (a .quotients .now) (s .pre .1) (s .pre .2) (l .results) (l .quotients) (l .marked) (l .i) (l .inv .0) (omega arith) (p .result) (p .ensures) (w .0 .left)))
+          (λ w. rw (w .1) (marked-more (a .kind) (a .y) (a .x .now) (a .results .now) (a .quotients .now) (s .pre .1) (s .pre .2) (l .results) (l .quotients) (l .marked) (l .at) (l .inv .0) (omega arith) (p .result) (p .ensures) (w .0 .taken)))
+          (λ w. rw (w .1) (unmarked-more (a .kind) (a .y) (a .x .now) (a .results .now) (a .quotients .now) (s .pre .1) (s .pre .2) (l .results) (l .quotients) (l .marked) (l .at) (l .inv .0) (omega arith) (p .result) (p .ensures) (w .0 .left)))
           (c .if1 .came),
       c .before .before .before .powers-for .ensures .0,
     )
@@ -106,7 +106,7 @@ fold-prepared-spec =
     slice-write-results
     slice-write-quotients
     add-marked
-    add-i
+    add-at
     loop-less
     loop-again
     same-length
