@@ -299,7 +299,7 @@ $(out)/sleef4.o $(out)/sleef8.o: bench/sleef.c | $(out) meters
 
 peer_objects = $(addprefix $(out)/,shift.o percent.o musl.o sleef4.o sleef8.o)
 
-bench_sources = $(addprefix bench/,bench.c harness.c operands.c peers.c doubles.c x87.c floats.c)
+bench_sources = $(addprefix bench/,bench.c harness.c operands.c peers.c doubles.c x87.c floats.c scaling.c)
 
 $(out)/bench: $(bench_sources) bench/harness.h bench/peers.h bench/tables.h include/zukemoriha.h $(peer_objects) $(linked)
 	$(CC) $(cflags) $(bench_sources) $(peer_objects) $(linked) -lsleef -ldl -o $@

@@ -12,7 +12,7 @@
 
 #include <stdio.h>
 
-static const struct table *const subjects[] = {double_tables, x87_tables, float_tables};
+static const struct table *const subjects[] = {double_tables, x87_tables, float_tables, scaling_tables};
 
 enum { SUBJECTS = sizeof subjects / sizeof *subjects };
 

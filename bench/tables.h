@@ -4,7 +4,7 @@
 
 #include "harness.h"
 
-extern const struct table double_tables[], x87_tables[], float_tables[];
+extern const struct table double_tables[], x87_tables[], float_tables[], scaling_tables[];
 
 /* One gap a row, for the figures. */
 extern const struct table double_gaps, x87_gaps;
