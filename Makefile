@@ -52,7 +52,7 @@ cargo = env $(addprefix -u ,$(unset)) CARGO_TARGET_DIR=../$(out)/rust ZUKEMORIHA
 
 # ---- what README.md names
 
-.PHONY: help run test check tests check-long check-faults bench times archive install uninstall clean
+.PHONY: help run test check tests check-long check-faults bench figures times archive install uninstall clean
 
 help: ## this list
 	@sed -n 's/^\([a-z-]*\):.*## \(.*\)/  make \1\t\2/p' $(firstword $(MAKEFILE_LIST)) | expand -t 22
@@ -82,6 +82,10 @@ check-faults: $(addprefix $(faults)/,$(programs)) ## the tests on a library with
 	sh tests/faults.sh $(faults) '$(subst $(out)/,$(faults)/,$(cargo))'
 
 bench: bench-calls bench-lines ## times, ratios and instructions of calls, in Markdown, then the line program (four minutes)
+
+figures: $(out)/bench | meters ## draw docs/figures anew: the time of one call against the gap (two minutes)
+	mkdir -p docs/figures
+	sh bench/figures.sh $(out)/bench $(out) $(newest) docs/figures
 
 times: ## the seconds of each crate and each edit in the last `make test`
 	@test -f target/ci.log || { echo 'there are no times yet: run make test first'; exit 1; }
@@ -121,7 +125,7 @@ peers:
 	$(call need,musl-gcc $(if $(wildcard /usr/include/mpfr.h),,mpfr.h),musl-tools libmpfr-dev)
 
 meters:
-	$(call need,valgrind $(if $(wildcard $(musl)),,musl) $(if $(wildcard /usr/include/*/sleef.h),,sleef.h),valgrind musl-dev libsleef-dev)
+	$(call need,valgrind gnuplot $(if $(wildcard $(musl)),,musl) $(if $(wildcard /usr/include/*/sleef.h),,sleef.h),valgrind gnuplot-nox musl-dev libsleef-dev)
 
 # ---- the archive
 

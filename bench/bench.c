@@ -4,6 +4,7 @@
  *
  *   bench [times] [libc]     the tables, in Markdown: times and ratios
  *   bench count [libc]       one pass of each row and peer, for callgrind.sh
+ *   bench gaps64 [libc]      one gap a line, for the figures; gaps80 is x87's
  *
  * With libc only this library and the C library take part, and only in tables that have it.
  */
@@ -50,14 +51,26 @@ static int print_all(void) {
     return 0;
 }
 
+static int print_figure(const struct table *t) {
+    long compared = 0;
+    if (!agrees(t, &compared))
+        return 1;
+    print_gaps(t);
+    return 0;
+}
+
 static int run(const char *mode) {
     if (strcmp(mode, "times") == 0)
         return print_all();
+    if (strcmp(mode, "gaps64") == 0)
+        return print_figure(&double_gaps);
+    if (strcmp(mode, "gaps80") == 0)
+        return print_figure(&x87_gaps);
     if (strcmp(mode, "count") == 0) {
         on_all(count_passes);
         return 0;
     }
-    fprintf(stderr, "usage: bench [times|count] [libc]\n");
+    fprintf(stderr, "usage: bench [times|count|gaps64|gaps80] [libc]\n");
     return 2;
 }
 
