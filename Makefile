@@ -52,7 +52,7 @@ cargo = env $(addprefix -u ,$(unset)) CARGO_TARGET_DIR=../$(out)/rust ZUKEMORIHA
 
 # ---- what README.md names
 
-.PHONY: help run test check tests check-long check-faults bench times archive install uninstall clean
+.PHONY: help run test check tests check-long check-faults bench figures times archive install uninstall clean
 
 help: ## this list
 	@sed -n 's/^\([a-z-]*\):.*## \(.*\)/  make \1\t\2/p' $(firstword $(MAKEFILE_LIST)) | expand -t 22
@@ -81,7 +81,11 @@ check-long: peers long-half $(addprefix long-,chains fprem libm ldexp stems stem
 check-faults: $(addprefix $(faults)/,$(programs)) ## the tests on a library with one fault at a time: each has to be noticed
 	sh tests/faults.sh $(faults) '$(subst $(out)/,$(faults)/,$(cargo))'
 
-bench: bench-calls bench-lines ## times, ratios and instructions of calls, then the line program
+bench: bench-calls bench-lines ## times, ratios and instructions of calls, in Markdown, then the line program (four minutes)
+
+figures: $(out)/bench | meters ## draw docs/figures anew: the time of one call against the gap (two minutes)
+	mkdir -p docs/figures
+	sh bench/figures.sh $(out)/bench $(out) $(newest) docs/figures
 
 times: ## the seconds of each crate and each edit in the last `make test`
 	@test -f target/ci.log || { echo 'there are no times yet: run make test first'; exit 1; }
@@ -121,7 +125,7 @@ peers:
 	$(call need,musl-gcc $(if $(wildcard /usr/include/mpfr.h),,mpfr.h),musl-tools libmpfr-dev)
 
 meters:
-	$(call need,valgrind $(if $(wildcard $(musl)),,musl) $(if $(wildcard /usr/include/*/sleef.h),,sleef.h),valgrind musl-dev libsleef-dev)
+	$(call need,valgrind gnuplot $(if $(wildcard $(musl)),,musl) $(if $(wildcard /usr/include/*/sleef.h),,sleef.h),valgrind gnuplot-nox musl-dev libsleef-dev)
 
 # ---- the archive
 
@@ -273,6 +277,9 @@ altered: header machine documents examples install-check
 .PHONY: bench-calls bench-lines
 
 musl = /usr/lib/x86_64-linux-musl/libc.a
+musl_names = $(foreach n,fmod remainder,$(n) $(n)f $(n)l)
+musl_members = $(addsuffix .lo,$(musl_names) remquo remquof)
+newest = target/newest-libc
 
 # an object and not a whole Rust archive: that one brings a fmod of its own, which would be linked in the C library's place
 $(out)/shift.o: bench/shift.rs | $(out)
@@ -285,10 +292,9 @@ $(out)/percent.o: bench/percent.rs | $(out)
 	objcopy --keep-global-symbol=rust_percent $(out)/percent-open.o $@
 
 # musl's functions, under names that the C library does not have
-$(out)/musl.o: | $(out) meters
-	cd $(out) && ar x $(musl) fmod.lo remainder.lo remquo.lo && ld -r fmod.lo remainder.lo remquo.lo -o musl-open.o
-	objcopy --redefine-sym fmod=musl_fmod --redefine-sym remainder=musl_remainder \
-	    --keep-global-symbol=musl_fmod --keep-global-symbol=musl_remainder $(out)/musl-open.o $@
+$(out)/musl.o: Makefile | $(out) meters
+	cd $(out) && ar x $(musl) $(musl_members) && ld -r $(musl_members) -o musl-open.o
+	objcopy $(foreach n,$(musl_names),--redefine-sym $(n)=musl_$(n) --keep-global-symbol=musl_$(n)) $(out)/musl-open.o $@
 
 $(out)/sleef4.o: lanes = -mavx -DLANES=4
 $(out)/sleef8.o: lanes = -mavx512f -DLANES=8
@@ -297,18 +303,15 @@ $(out)/sleef4.o $(out)/sleef8.o: bench/sleef.c | $(out) meters
 
 peer_objects = $(addprefix $(out)/,shift.o percent.o musl.o sleef4.o sleef8.o)
 
-$(out)/bench: bench/bench.c bench/peers.c bench/peers.h include/zukemoriha.h $(peer_objects) $(linked)
-	$(CC) $(cflags) bench/bench.c bench/peers.c $(peer_objects) $(linked) -lsleef -ldl -o $@
+bench_sources = $(addprefix bench/,bench.c harness.c operands.c peers.c doubles.c x87.c floats.c scaling.c)
 
-# on this machine's C library, then on the newest one, if it can be had
+$(out)/bench: $(bench_sources) bench/harness.h bench/peers.h bench/tables.h include/zukemoriha.h $(peer_objects) $(linked)
+	$(CC) $(cflags) $(bench_sources) $(peer_objects) $(linked) -lsleef -ldl -o $@
+
 bench-calls: $(out)/bench | meters
 	@sed -n 's/^model name[^:]*: //p' /proc/cpuinfo | sed -n 1p; $(CC) --version | sed -n 1p; $(RUSTC) --version
 	@dpkg-query -W -f '$${Package} $${Version}\n' musl-dev libsleef-dev
-	$(out)/bench
-	sh bench/callgrind.sh $(out)/callgrind $(out)/bench
-	@newest=$$(sh bench/newest-libc.sh target/newest-libc) || { echo 'the tables above are all: none of the newest C library'; exit 0; }; \
-	set -x; $$newest $(out)/bench; \
-	sh bench/callgrind.sh $(out)/callgrind $$newest $(out)/bench || echo 'valgrind cannot run the newest C library'
+	sh bench/tables.sh $(out)/bench $(out) $(newest)
 
 bench-lines: | $(out)
 	rt check remainder_lines

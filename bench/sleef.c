@@ -20,12 +20,11 @@ typedef __m256d vector;
 #endif
 
 #define LIST(name) \
-    void NAMED(name)(const uint64_t *x, size_t n, uint64_t y, uint64_t *values, uint8_t *bytes); \
-    void NAMED(name)(const uint64_t *x, size_t n, uint64_t y, uint64_t *values, uint8_t *bytes) { \
+    void NAMED(name)(const uint64_t *x, size_t n, uint64_t y, uint64_t *values); \
+    void NAMED(name)(const uint64_t *x, size_t n, uint64_t y, uint64_t *values) { \
         size_t i; \
         double number; \
         vector divisor, some; \
-        (void)bytes; \
         memcpy(&number, &y, sizeof number); \
         divisor = ALL(number); \
         for (i = 0; i < n; i += LANES) { \
