@@ -1,2 +1,3 @@
-pub mod Normal
 pub mod Moved
+pub mod Normal
+pub mod Read

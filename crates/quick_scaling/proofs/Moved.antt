@@ -11,7 +11,7 @@ use Rattle.digits.proofs.Common.{shift-shift}
 use Rattle.digits.proofs.Signed.{add-sub}
 use Rattle.digits.proofs.Size.{size-shift, size-between}
 use Rattle.definitions.specs.Class.{Value, finite}
-use Rattle.definitions.specs.Format.{Format, Regular, Representable, topField, leading, fieldWeight, reach, exponentOf, patternOf}
+use Rattle.definitions.specs.Format.{Format, Regular, Representable, topField, leading, fieldWeight, exponentOf, patternOf}
 use Rattle.definitions.specs.Round.{round}
 use Rattle.definitions.specs.Scale.{scaleValue, scaleReport, significandOf, splitReport}
 use Rattle.definitions.specs.declared.Rounding.the-variants.{Exact}

@@ -1,20 +1,20 @@
 -- Which patterns are normal numbers, by their fields, and what they stand for. Assumes nothing.
 use mathlib.Core.Path.{_≡_, refl, sym, ap, _∙_}
-use mathlib.Core.Bool.{Bool, true, false, cond, _&&_}
-use Prim.Native.Nat.{ℕ, zero, suc, _+_, _-_, _≤_, _<_}
+use mathlib.Core.Bool.{Bool, true, false, not, _&&_}
+use Prim.Native.Nat.{ℕ, suc, _+_, _-_, _≤_, _<_}
 use native.Mathlib.Omega.{arith}
-use borrow.Author.Tests.{ltb-true, ltb-false, leb-true}
-use lib.Dec.{ltb, leb}
-use lib.IntN.{ℤ, pos, negsuc}
+use borrow.Author.Tests.{ltb-true, leb-true}
+use lib.Dec.{ltb, leb, eqb}
+use lib.IntN.{ℤ, pos, negsuc, _+ℤ_}
 use lib.Signed.{ltZ}
-use Rattle.digits.proofs.Tests.{clash, and-both, not-zero}
+use Rattle.digits.proofs.Tests.{clash, and-both, and-false, not-zero}
 use Rattle.definitions.specs.Format.{Format, topField, leading, fieldWeight, hiddenPart, fieldsClass, classOf}
-use Rattle.definitions.specs.Facts.{denormal}
+use Rattle.definitions.specs.Facts.{denormal, toldDenormal}
 use Rattle.laws.proofs.Layouts.{number, high-read}
-use Rattle.laws.proofs.Pattern.{field-small, rest-small}
+use Rattle.laws.proofs.Pattern.{rest-small}
 use Rattle.shapes.specs.declared.fields.Fields.{Fields}
 use Rattle.shapes.specs.Shape.{fieldsIn}
-use Rattle.quick_scaling.specs.Normal.{normal, normalField}
+use Rattle.quick_scaling.specs.Normal.{normal, staysNormal}
 
 -- the significand of a stored one
 abbrev pub significand : Format → ℕ → ℕ
@@ -51,40 +51,26 @@ module _ (f : Format) (b : ℕ) (given : Normal f (fieldsIn f b)) where
   unfolding classOf
   class-normal = let s = fieldsIn f b in fields-normal f (s .negative) (s .field) (s .stored) (given .some) (given .top) (given .leads)
 
-  pub not-denormal : denormal f b ≡ false
+  -- a call of any number tells that it is not denormal
+  pub not-denormal : (n : ℕ) → false ≡ toldDenormal f n b b
   unfolding denormal
-  not-denormal = rw (not-zero (fieldsIn f b .field) (given .some))
+  not-denormal n = rw (not-zero (fieldsIn f b .field) (given .some)) (sym (and-false (not (eqb n 6))))
 
--- a field that a power leads to
-pub normal-field : (f : Format) (z : ℤ) → 0 < normalField f z → (z ≡ pos (normalField f z)) × (normalField f z < topField f)
-normal-field f (negsuc k) h = absurd (omega arith)
-normal-field f (pos e) h = go (ltb e (topField f)) refl h
+-- a number that stays normal: where its field is taken to is a normal number's field
+pub record Stays (f : Format) (b : ℕ) (k : ℤ) : Type 0 where
+  pub before : Normal f (fieldsIn f b)
+  pub field : ℕ
+  pub is : pos (fieldsIn f b .field) +ℤ k ≡ pos field
+  pub some : 0 < field
+  pub top : field < topField f
+
+pub stays : (f : Format) (b : ℕ) (k : ℤ) → staysNormal f b k ≡ true → Stays f b k
+stays f b k e =
+    let z = pos (fieldsIn f b .field) +ℤ k in
+    let a = and-both (normal f b) (ltZ (pos 0) z && ltZ z (pos (topField f))) e in
+    let c = and-both (ltZ (pos 0) z) (ltZ z (pos (topField f))) (a .1) in
+    go z refl (c .0) (c .1) (normal-fields f b (a .0))
   where
-    go : (t : Bool) → ltb e (topField f) ≡ t → 0 < cond t e 0 → (pos e ≡ pos (cond t e 0)) × (cond t e 0 < topField f)
-    go true q l = (refl, ltb-true e (topField f) q)
-    go false q l = absurd (omega arith)
-
-pub normal-field-le : (f : Format) (z : ℤ) → normalField f z ≤ topField f
-normal-field-le f (negsuc k) = omega arith
-normal-field-le f (pos e) = go (ltb e (topField f)) refl
-  where
-    go : (t : Bool) → ltb e (topField f) ≡ t → cond t e 0 ≤ topField f
-    go true q = omega (arith, ltb-true e (topField f) q)
-    go false q = omega arith
-
--- by the two tests of the code
-pub field-within : (f : Format) (z : ℤ) → ltZ (pos 0) z ≡ true → ltZ z (pos (topField f)) ≡ true → z ≡ pos (normalField f z)
-field-within f (pos e) low top = rw top
-field-within f (negsuc k) low top = clash (cc)
-
-pub field-low : (f : Format) (z : ℤ) → ltZ (pos 0) z ≡ false → 0 ≡ normalField f z
-field-low f (pos e) low = let none : e ≡ 0 = omega (arith, ltb-false 0 e low) in rw none (same (ltb 0 (topField f)))
-  where
-    same : (t : Bool) → _≡_ {A = ℕ} 0 (cond t 0 0)
-    same true = refl
-    same false = refl
-field-low f (negsuc k) low = refl
-
-pub field-high : (f : Format) (z : ℤ) → ltZ z (pos (topField f)) ≡ false → 0 ≡ normalField f z
-field-high f (pos e) top = rw top
-field-high f (negsuc k) top = refl
+    go : (z : ℤ) → pos (fieldsIn f b .field) +ℤ k ≡ z → ltZ (pos 0) z ≡ true → ltZ z (pos (topField f)) ≡ true → Normal f (fieldsIn f b) → Stays f b k
+    go (pos d) is low top n = record { before = n; field = d; is = is; some = ltb-true 0 d low; top = ltb-true d (topField f) top }
+    go (negsuc j) is low top n = clash (cc)

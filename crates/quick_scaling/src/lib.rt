@@ -4,7 +4,9 @@
 use definitions::Pattern;
 use definitions::Rounding;
 use definitions::ScaleAnswer;
+use definitions::ScaleTold;
 use definitions::SplitAnswer;
+use definitions::SplitTold;
 use shapes::fields::Fields;
 use shapes::fields::fields_of;
 use shapes::fields::pattern_of;
@@ -15,15 +17,15 @@ use shapes::shape::top_field;
 ghost use mathlib.Core.Path.{_≡_};
 ghost use mathlib.Core.Bool.{true};
 ghost use Prim.Native.Nat.{_+_, _*_, _≤_, _<_};
-ghost use lib.Dec.{ltb};
 ghost use lib.IntN.{pos, _+ℤ_};
 ghost use Rattle.definitions.specs.Format.{patterns, topField, fieldWeight, withSign};
+ghost use Rattle.definitions.specs.Facts.{toldDenormal};
 ghost use Rattle.definitions.specs.Scale.{scaleReport, splitReport};
 ghost use Rattle.definitions.specs.Answers.{joined, scaleMeaning, splitMeaning};
-ghost use Rattle.shapes.specs.Shape.{formatOf, Sound, fieldsIn};
-ghost use Rattle.quick_scaling.specs.Normal.{normal, normalField, scaledField};
+ghost use Rattle.shapes.specs.Shape.{formatOf, Sound};
+ghost use Rattle.quick_scaling.specs.Normal.{normal, staysNormal};
 
-// A leading digit, beside neither the field 0 nor the largest: a pattern of x87 may have another field without the leading digit.
+// Neither the field 0 nor the largest, and a leading digit: x87 has patterns without it beside every field.
 pub fn is_normal(shape: Shape, pattern: Pattern) -> bool
     requires { ⌜ Sound (formatOf shape) × (joined pattern < patterns (formatOf shape)) ⌝ }
     ensures { λ r. ⌜ r ≡ normal (formatOf shape) (joined pattern) ⌝ }
@@ -34,23 +36,24 @@ pub fn is_normal(shape: Shape, pattern: Pattern) -> bool
         && leading_weight(shape) <= hidden_part(shape) + fields.stored
 }
 
-// The field that a power takes a field to; 0 where no normal number has it.
-fn field_by(shape: Shape, field: u64, power: i32) -> u64
-    requires { ⌜ Sound (formatOf shape) × (field ≤ topField (formatOf shape)) ⌝ }
-    ensures { λ r. ⌜ r ≡ normalField (formatOf shape) (pos field +ℤ power) ⌝ }
+// Where a power takes a field to. An i64 holds the sum, whatever the power is.
+fn reached(field: u64, power: i32) -> i64
+    requires { ⌜ field ≤ 32767 ⌝ }
+    ensures { λ r. ⌜ r ≡ pos field +ℤ power ⌝ }
 {
-    let reached = (field as i64) + (power as i64);
-    if 0 < reached && reached < (top_field(shape) as i64) {
-        return reached as u64;
-    }
-    0
+    (field as i64) + (power as i64)
 }
 
+// Whether a pattern is a normal number before and after.
 pub fn stays_normal(shape: Shape, pattern: Pattern, power: i32) -> bool
     requires { ⌜ Sound (formatOf shape) × (joined pattern < patterns (formatOf shape)) ⌝ }
-    ensures { λ r. ⌜ r ≡ ltb 0 (scaledField (formatOf shape) (joined pattern) power) ⌝ }
+    ensures { λ r. ⌜ r ≡ staysNormal (formatOf shape) (joined pattern) power ⌝ }
 {
-    0 < field_by(shape, fields_of(shape, pattern).field, power)
+    if is_normal(shape, pattern) {
+        let field = reached(fields_of(shape, pattern).field, power);
+        return 0 < field && field < (top_field(shape) as i64);
+    }
+    false
 }
 
 // The same sign and the same stored significand beside another field.
@@ -66,25 +69,33 @@ fn with_field(shape: Shape, fields: Fields, field: u64) -> Pattern
     pattern_of(shape, moved)
 }
 
-pub fn scale_normal(shape: Shape, pattern: Pattern, power: i32) -> ScaleAnswer
-    requires { ⌜ Sound (formatOf shape) × (joined pattern < patterns (formatOf shape)) × (normal (formatOf shape) (joined pattern) ≡ true) × (0 < scaledField (formatOf shape) (joined pattern) power) ⌝ }
-    ensures { λ r. ⌜ scaleMeaning r ≡ scaleReport (formatOf shape) (joined pattern) power ⌝ }
+pub fn scale_normal(shape: Shape, pattern: Pattern, power: i32) -> ScaleTold
+    requires { ⌜ Sound (formatOf shape) × (joined pattern < patterns (formatOf shape)) × (staysNormal (formatOf shape) (joined pattern) power ≡ true) ⌝ }
+    ensures answer { λ r. ⌜ scaleMeaning (r .answer) ≡ scaleReport (formatOf shape) (joined pattern) power ⌝ }
+    ensures denormal { λ r. ⌜ r .denormal ≡ toldDenormal (formatOf shape) (scaleReport (formatOf shape) (joined pattern) power .number) (joined pattern) (joined pattern) ⌝ }
 {
     let fields = fields_of(shape, pattern);
-    ScaleAnswer::Scaled {
-        value: with_field(shape, fields, field_by(shape, fields.field, power)),
-        says: Rounding::Exact,
+    ScaleTold {
+        answer: ScaleAnswer::Scaled {
+            value: with_field(shape, fields, reached(fields.field, power) as u64),
+            says: Rounding::Exact,
+        },
+        denormal: false,
     }
 }
 
 // The field of a significand from 1 to below 2 is the bias.
-pub fn split_normal(shape: Shape, pattern: Pattern) -> SplitAnswer
+pub fn split_normal(shape: Shape, pattern: Pattern) -> SplitTold
     requires { ⌜ Sound (formatOf shape) × (joined pattern < patterns (formatOf shape)) × (normal (formatOf shape) (joined pattern) ≡ true) ⌝ }
-    ensures { λ r. ⌜ splitMeaning r ≡ splitReport (formatOf shape) (joined pattern) ⌝ }
+    ensures answer { λ r. ⌜ splitMeaning (r .answer) ≡ splitReport (formatOf shape) (joined pattern) ⌝ }
+    ensures denormal { λ r. ⌜ r .denormal ≡ toldDenormal (formatOf shape) (splitReport (formatOf shape) (joined pattern) .number) (joined pattern) (joined pattern) ⌝ }
 {
     let fields = fields_of(shape, pattern);
-    SplitAnswer::Parts {
-        significand: with_field(shape, fields, shape.bias as u64),
-        exponent: (fields.field as i32) - (shape.bias as i32),
+    SplitTold {
+        answer: SplitAnswer::Parts {
+            significand: with_field(shape, fields, shape.bias as u64),
+            exponent: (fields.field as i32) - (shape.bias as i32),
+        },
+        denormal: false,
     }
 }

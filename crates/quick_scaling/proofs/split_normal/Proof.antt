@@ -1,18 +1,19 @@
 -- `split_normal` meets its contract: the number beside the bias, and how far its field is from it. Assumes nothing.
-use mathlib.Core.Path.{_≡_, sym, ap, _∙_}
+use mathlib.Core.Path.{_≡_, sym, _∙_}
 use Prim.Native.Nat.{ℕ, _≤_}
 use native.Mathlib.Omega.{arith}
-use lib.IntN.{ℤ, pos, _-ℤ_}
+use lib.IntN.{pos, _-ℤ_}
 use mir.Syntax.{w32}
 use mir.Val.{SFits, toZ, ofZ}
-use mir.ValLaws.{toZ-ofZ, toZ-pos}
+use mir.ValLaws.{toZ-pos}
 use Rattle.digits.proofs.Signed.{sub-fits, sub-is}
 use Rattle.definitions.specs.Answers.{joined, splitMeaning}
 use Rattle.definitions.specs.Format.{Format}
-use Rattle.laws.proofs.Pattern.{pack, field-small, rest-small}
+use Rattle.definitions.specs.Scale.{splitReport}
+use Rattle.laws.proofs.Pattern.{pack}
 use Rattle.shapes.specs.Shape.{formatOf, fieldsIn}
-use Rattle.shapes.proofs.Weights.{top-le}
-use Rattle.quick_scaling.proofs.Normal.{normal-fields}
+use Rattle.quick_scaling.proofs.Normal.{normal-fields, not-denormal}
+use Rattle.quick_scaling.proofs.Read.{field-le, stored-below}
 use Rattle.quick_scaling.proofs.Moved.{split-moved}
 use borrow.Author.Needs.{needs}
 use Rattle.quick_scaling.proofs.split_normal.Statement.{statement}
@@ -24,12 +25,6 @@ fields-of-requires c κs = search needs
 cast-with-field : tie.Need-cast-with-field
 cast-with-field c = search needs
 
-with-field-requires : tie.Need-with-field-requires
-with-field-requires c κs =
-    let o = c .before in
-    let a = o .before .args in
-    (o .before .pre .0, omega arith, rw (o .fields-of .ensures) (rest-small (formatOf (a .shape)) (joined (a .pattern))))
-
 -- the field and the bias are small, so that the machine reads them and their difference as they are
 module _ (o : tie.After-fields-of) where
   abbrev f : Format
@@ -38,25 +33,30 @@ module _ (o : tie.After-fields-of) where
   abbrev b : ℕ
   b = joined (o .before .args .pattern)
 
-  field-le : o .fields-of .result .field ≤ 32767
-  field-le = rw (o .fields-of .ensures) (omega (arith, field-small f b, top-le f (o .before .pre .0)))
+  small : o .fields-of .result .field ≤ 32767
+  small = field-le f (o .before .pre .0) b (o .fields-of .result) (o .fields-of .ensures)
 
   bias-le : f .bias ≤ 16383
   bias-le = o .before .pre .0 .short
 
   fits : SFits w32 (toZ w32 (o .fields-of .result .field) -ℤ toZ w32 (f .bias))
   fits =
-      sub-fits (pos (o .fields-of .result .field)) (pos (f .bias)) _ _ (toZ-pos w32 _ (omega (arith, field-le))) (toZ-pos w32 _ (omega (arith, bias-le)))
-      (omega (arith, field-le)) (omega (arith, bias-le))
+      sub-fits (pos (o .fields-of .result .field)) (pos (f .bias)) _ _ (toZ-pos w32 _ (omega (arith, small))) (toZ-pos w32 _ (omega (arith, bias-le)))
+      (omega (arith, small)) (omega (arith, bias-le))
 
   difference : toZ w32 (ofZ w32 (toZ w32 (o .fields-of .result .field) -ℤ toZ w32 (f .bias))) ≡ pos (fieldsIn f b .field) -ℤ pos (f .bias)
   difference =
-      sub-is (pos (o .fields-of .result .field)) (pos (f .bias)) _ _ (toZ-pos w32 _ (omega (arith, field-le))) (toZ-pos w32 _ (omega (arith, bias-le)))
-      (omega (arith, field-le)) (omega (arith, bias-le))
+      sub-is (pos (o .fields-of .result .field)) (pos (f .bias)) _ _ (toZ-pos w32 _ (omega (arith, small))) (toZ-pos w32 _ (omega (arith, bias-le)))
+      (omega (arith, small)) (omega (arith, bias-le))
       ∙ rw (o .fields-of .ensures)
 
+with-field-requires : tie.Need-with-field-requires
+with-field-requires c κs =
+    let o = c .before in
+    (o .before .pre .0, omega arith, stored-below (f o) (o .before .pre .0) (b o) (o .fields-of .result) (o .fields-of .ensures))
+
 cast-t6 : tie.Need-cast-t6
-cast-t6 c = record { sfits = omega (arith, field-le (c .before .before .before)) }
+cast-t6 c = record { sfits = omega (arith, small (c .before .before .before)) }
 
 cast-t7 : tie.Need-cast-t7
 cast-t7 c = search needs
@@ -70,12 +70,15 @@ returns c =
     let w = c .before .before in
     let o = w .before .before in
     let s = o .before in
-    (λ i. record {
-      number = 0;
-      significand = (w .with-field .ensures ∙ (λ j. pack (f o) (o .fields-of .ensures j .negative) (f o .bias) (o .fields-of .ensures j .stored))) i;
-      exponent = difference o i;
-    })
-    ∙ sym (split-moved (f o) (s .pre .0 .regular) (b o) (normal-fields (f o) (b o) (s .pre .2)))
+    let given = normal-fields (f o) (b o) (s .pre .2) in (
+      (λ i. record {
+        number = 0;
+        significand = (w .with-field .ensures ∙ (λ j. pack (f o) (o .fields-of .ensures j .negative) (f o .bias) (o .fields-of .ensures j .stored))) i;
+        exponent = difference o i;
+      })
+          ∙ sym (split-moved (f o) (s .pre .0 .regular) (b o) given),
+      not-denormal (f o) (b o) given (splitReport (f o) (b o) .number),
+    )
 
 pub split-normal-spec : {M : Type 1} → statement M
 split-normal-spec = tie.close (tie.spec fields-of-requires cast-with-field with-field-requires cast-t6 cast-t7 sub-t8 returns)
