@@ -91,10 +91,12 @@ pub fn split_normal(shape: Shape, pattern: Pattern) -> SplitTold
     ensures denormal { λ r. ⌜ r .denormal ≡ toldDenormal (formatOf shape) (splitReport (formatOf shape) (joined pattern) .number) (joined pattern) (joined pattern) ⌝ }
 {
     let fields = fields_of(shape, pattern);
+    let significand = with_field(shape, fields, shape.bias as u64);
+    let exponent = (fields.field as i32) - (shape.bias as i32);
     SplitTold {
         answer: SplitAnswer::Parts {
-            significand: with_field(shape, fields, shape.bias as u64),
-            exponent: (fields.field as i32) - (shape.bias as i32),
+            significand,
+            exponent,
         },
         denormal: false,
     }

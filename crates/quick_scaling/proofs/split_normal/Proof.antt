@@ -36,33 +36,37 @@ module _ (o : tie.After-fields-of) where
   small : o .fields-of .result .field ≤ 32767
   small = field-le f (o .before .pre .0) b (o .fields-of .result) (o .fields-of .ensures)
 
-  bias-le : f .bias ≤ 16383
-  bias-le = o .before .pre .0 .short
+  -- what is taken off the field
+  abbrev base : ℕ
+  base = f .bias
 
-  fits : SFits w32 (toZ w32 (o .fields-of .result .field) -ℤ toZ w32 (f .bias))
+  base-le : base ≤ 16383
+  base-le = omega (arith, o .before .pre .0 .short, o .before .pre .0 .narrow)
+
+  fits : SFits w32 (toZ w32 (o .fields-of .result .field) -ℤ toZ w32 base)
   fits =
-      sub-fits (pos (o .fields-of .result .field)) (pos (f .bias)) _ _ (toZ-pos w32 _ (omega (arith, small))) (toZ-pos w32 _ (omega (arith, bias-le)))
-      (omega (arith, small)) (omega (arith, bias-le))
+      sub-fits (pos (o .fields-of .result .field)) (pos base) _ _ (toZ-pos w32 _ (omega (arith, small))) (toZ-pos w32 _ (omega (arith, base-le)))
+      (omega (arith, small)) (omega (arith, base-le))
 
-  difference : toZ w32 (ofZ w32 (toZ w32 (o .fields-of .result .field) -ℤ toZ w32 (f .bias))) ≡ pos (fieldsIn f b .field) -ℤ pos (f .bias)
+  difference : toZ w32 (ofZ w32 (toZ w32 (o .fields-of .result .field) -ℤ toZ w32 base)) ≡ pos (fieldsIn f b .field) -ℤ pos (f .bias)
   difference =
-      sub-is (pos (o .fields-of .result .field)) (pos (f .bias)) _ _ (toZ-pos w32 _ (omega (arith, small))) (toZ-pos w32 _ (omega (arith, bias-le)))
-      (omega (arith, small)) (omega (arith, bias-le))
-      ∙ rw (o .fields-of .ensures)
+      sub-is (pos (o .fields-of .result .field)) (pos base) _ _ (toZ-pos w32 _ (omega (arith, small))) (toZ-pos w32 _ (omega (arith, base-le)))
+      (omega (arith, small)) (omega (arith, base-le))
+      ∙ (λ i. pos (o .fields-of .ensures i .field) -ℤ pos base)
 
 with-field-requires : tie.Need-with-field-requires
 with-field-requires c κs =
     let o = c .before in
     (o .before .pre .0, omega arith, stored-below (f o) (o .before .pre .0) (b o) (o .fields-of .result) (o .fields-of .ensures))
 
-cast-t6 : tie.Need-cast-t6
-cast-t6 c = record { sfits = omega (arith, small (c .before .before .before)) }
+cast-exponent : tie.Need-cast-exponent
+cast-exponent c = record { sfits = omega (arith, small (c .before .before .before)) }
 
-cast-t7 : tie.Need-cast-t7
-cast-t7 c = search needs
+cast-exponent-2 : tie.Need-cast-exponent-2
+cast-exponent-2 c = record { sfits = omega (arith, base-le (c .before .before .before .before)) }
 
-sub-t8 : tie.Need-sub-t8
-sub-t8 c = fits (c .before .before .before .before)
+sub-exponent : tie.Need-sub-exponent
+sub-exponent c = fits (c .before .before .before .before)
 
 returns : tie.Need-returns
 unfolding splitMeaning
@@ -81,4 +85,4 @@ returns c =
     )
 
 pub split-normal-spec : {M : Type 1} → statement M
-split-normal-spec = tie.close (tie.spec fields-of-requires cast-with-field with-field-requires cast-t6 cast-t7 sub-t8 returns)
+split-normal-spec = tie.close (tie.spec fields-of-requires cast-with-field with-field-requires cast-exponent cast-exponent-2 sub-exponent returns)
