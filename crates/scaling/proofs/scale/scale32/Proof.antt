@@ -1,38 +1,56 @@
--- `scale32` meets its contract: `scale_of` in the shape of binary32. Assumes nothing.
+-- `scale32` meets its contract: either way, in the shape of binary32. Assumes nothing.
 use mathlib.Core.Path.{sym, _∙_}
+use Prim.Native.Nat.{_<_}
+use native.Mathlib.Nat.{zero-add}
+use native.Mathlib.Omega.{arith}
 use mir.Syntax.{w32}
 use mir.ValLaws.{toZ-ofZ}
-use Rattle.definitions.specs.Format.{binary32}
-use Rattle.definitions.specs.Scale.{scaleReport}
-use Rattle.definitions.specs.declared.Kind.the-variants.{Truncated}
-use Rattle.definitions.proofs.Facts.{told-always}
+use Rattle.definitions.specs.Format.{binary32, patterns, words}
 use Rattle.shapes.proofs.Sounds.{sound32}
-use Rattle.packing.proofs.Standing.{stands-pattern, class-pattern}
 use borrow.Author.Needs.{needs}
 use Rattle.scaling.proofs.scale.scale32.Statement.{statement}
 use Rattle.scaling.proofs.scale.scale32.Tie as tie
 
-of-pattern-requires : tie.Need-of-pattern-requires
-of-pattern-requires c κs = search needs
+small : (s : tie.Start) → words 0 (s .args .x) < patterns binary32
+small s = omega arith
 
 shape-requires : tie.Need-shape-requires
 shape-requires c κs = search needs
 
-scale-of-requires : tie.Need-scale-of-requires
-scale-of-requires c κs = rw (c .shape .ensures) (sound32, stands-pattern binary32 sound32 (c .before .before .args .x) _ (c .before .of-pattern .ensures))
+stays-normal-requires : tie.Need-stays-normal-requires
+stays-normal-requires c κs = rw (c .shape .ensures) (sound32, small (c .before))
 
-denormal32-requires : tie.Need-denormal32-requires
-denormal32-requires c κs = search needs
+scale-normal-requires : tie.Need-scale-normal-requires
+scale-normal-requires c κs =
+    let k = c .before .before in
+    rw (k .shape .ensures) (sound32, small (k .before), rw (k .shape .ensures) at (sym (c .before .stays-normal .ensures) ∙ c .if1 .taken))
 
 returns : tie.Need-returns
-unfolding scaleReport
 returns c =
-    let k = c .before in
-    let s = k .before .before .before in (
-      rw (← class-pattern binary32 sound32 (s .args .x) _ (k .before .before .of-pattern .ensures))
-          (rw (k .before .shape .ensures, toZ-ofZ w32 (s .args .power) (s .fits .power)) at (k .scale-of .ensures)),
-      c .denormal32 .ensures ∙ sym (told-always binary32 Truncated (s .args .x) 0 (s .args .power) .2),
-    )
+    let k = c .before .before .before in
+    let s = k .before in
+    rw (k .shape .ensures, zero-add, toZ-ofZ w32 (s .args .power) (s .fits .power)) at (c .scale-normal .ensures)
+
+shape-requires-2 : tie.Need-shape-requires-2
+shape-requires-2 c κs = search needs
+
+scale-general-requires : tie.Need-scale-general-requires
+scale-general-requires c κs = rw (c .shape2 .ensures) (sound32, small (c .before .before .before .before))
+
+returns-2 : tie.Need-returns-2
+returns-2 c =
+    let k = c .before .before .before .before in
+    let s = k .before in
+    rw (c .before .shape2 .ensures, zero-add, toZ-ofZ w32 (s .args .power) (s .fits .power)) at (c .scale-general .ensures)
 
 pub scale32-spec : {M : Type 1} → statement M
-scale32-spec = tie.close (tie.spec of-pattern-requires shape-requires scale-of-requires denormal32-requires returns)
+scale32-spec =
+    tie.close
+    (tie.spec
+    shape-requires
+    stays-normal-requires
+    scale-normal-requires
+    returns
+    shape-requires-2
+    scale-general-requires
+    returns-2)
