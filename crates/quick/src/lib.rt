@@ -69,7 +69,7 @@ pub fn is_common(x: u64, y: u64) -> bool
 }
 
 // How many fields a dividend has to lie further below its divisor, where the quotient may go up.
-fn margin(kind: Kind) -> u64
+pub fn margin(kind: Kind) -> u64
     ensures { λ r. ⌜ r ≡ marginOf kind ⌝ }
 {
     match kind {
@@ -131,7 +131,7 @@ fn divide_quick(a: u64, b: u64, places: u32) -> Counted
 
 // What a division left, settled by the kind. The nearest quotient goes up as often as not: its two answers are chosen between, and not
 // branched to.
-fn settle(kind: Kind, negative: bool, left: Divided, divisor: u64) -> Settled
+pub fn settle(kind: Kind, negative: bool, left: Divided, divisor: u64) -> Settled
     requires { ⌜ left .remainder < divisor ⌝ }
     ensures { λ r. ⌜ r ≡ settledOf (roundsUp kind (left .quotient) (left .remainder) divisor) negative left divisor ⌝ }
 {

@@ -6,8 +6,7 @@ use native.Mathlib.Omega.{arith}
 use Rattle.definitions.specs.Format.{binary64, classOf}
 use Rattle.pairs.specs.Divisions.{divisions, gapOf}
 use Rattle.pairs.proofs.Divisions.{few-divisions}
-use Rattle.quick.proofs.Normals.{fields}
-use Rattle.quick.proofs.Below.{below}
+use Rattle.quick.proofs.Fields.{fields, below}
 use Rattle.remainder.proofs.OfPatterns.{normals-answer, normals-denormal}
 use borrow.Author.Needs.{needs}
 use Rattle.remainder.proofs.patterns.remainder64_counted.Statement.{statement}
