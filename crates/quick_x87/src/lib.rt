@@ -1,0 +1,110 @@
+// The remainder of two normal x87 numbers, without operands: a significand with its leading digit is a word as the engine divides it, and
+// nothing has to be judged or normalised. In the common case the dividend's field is not below the divisor's; and where it lies so far
+// below that the quotient is zero, the dividend is kept. Everything else goes the general way. Only crates of this repository call these.
+use definitions::Kind;
+use definitions::Pattern;
+use division::divide;
+use quick::margin;
+use quick::settle;
+use quotients::quotient_bits;
+ghost use mathlib.Core.Path.{_≡_};
+ghost use mathlib.Core.Bool.{true, _&&_};
+ghost use Prim.Native.Nat.{_+_, _-_, _*_, _^_, _≤_, _<_};
+ghost use lib.Dec.{ltb};
+ghost use Rattle.definitions.specs.Class.{finite};
+ghost use Rattle.definitions.specs.Format.{x87, words, patternOf};
+ghost use Rattle.definitions.specs.Remainder.{remainder};
+ghost use Rattle.definitions.specs.Answers.{joined};
+ghost use Rattle.quick.specs.Common.{marginOf};
+ghost use Rattle.quick_x87.specs.Common.{fieldOf, normal, normals};
+
+// A remainder of two normal numbers: it is never refused.
+pub struct Quick {
+    pub value: Pattern,
+    pub quotient: u32,
+}
+
+// The weight of a significand's leading digit, and of the sign in its word.
+const LEADING: u64 = 9223372036854775808;
+
+const SIGN: u64 = 32768;
+
+fn field_of(word: u16) -> u64
+    ensures { λ r. ⌜ r ≡ fieldOf word ⌝ }
+{
+    (word % 32768) as u64
+}
+
+fn is_normal(significand: u64, word: u16) -> bool
+    ensures { λ r. ⌜ r ≡ normal significand word ⌝ }
+{
+    LEADING <= significand && 0 < field_of(word) && field_of(word) < 32767
+}
+
+pub fn are_normal(x: u64, xw: u16, y: u64, yw: u16) -> bool
+    ensures { λ r. ⌜ r ≡ normals x xw y yw ⌝ }
+{
+    is_normal(x, xw) && is_normal(y, yw)
+}
+
+pub fn is_below(xw: u16, yw: u16) -> bool
+    ensures { λ r. ⌜ r ≡ ltb (fieldOf xw) (fieldOf yw) ⌝ }
+{
+    field_of(xw) < field_of(yw)
+}
+
+// Whether the fields alone say that a normal dividend is its own remainder.
+pub fn is_kept(xw: u16, yw: u16, kind: Kind) -> bool
+    ensures { λ r. ⌜ r ≡ ltb (fieldOf xw + marginOf kind) (fieldOf yw) ⌝ }
+{
+    field_of(xw) + margin(kind) < field_of(yw)
+}
+
+pub fn remainder_kept(x: u64, xw: u16, y: u64, yw: u16, kind: Kind) -> Quick
+    requires { ⌜ (normals x xw y yw ≡ true) × (fieldOf xw + marginOf kind < fieldOf yw) ⌝ }
+    ensures { λ r. ⌜ record { number = 0; value = joined (r .value); quotient = r .quotient } ≡ remainder x87 kind (words xw x) (words yw y) ⌝ }
+{
+    Quick {
+        value: Pattern {
+            high: xw as u64,
+            low: x,
+        },
+        quotient: 0,
+    }
+}
+
+// The pattern of a significand at the place of a field: its leading zeros come off the field, as far as that goes.
+fn written(negative: bool, significand: u64, field: u64) -> Pattern
+    requires { ⌜ (1 ≤ field) × (field < 32767) ⌝ }
+    ensures { λ r. ⌜ joined r ≡ patternOf x87 (finite (record { negative = negative; count = significand * 2 ^ (field - 1) })) ⌝ }
+{
+    let sign = if negative { SIGN } else { 0 };
+    if significand == 0 {
+        return Pattern { high: sign, low: 0 };
+    }
+    let zeros = u64::leading_zeros(significand) as u64;
+    if zeros < field {
+        Pattern {
+            high: sign + (field - zeros),
+            low: significand << zeros,
+        }
+    } else {
+        Pattern {
+            high: sign,
+            low: significand << (field - 1),
+        }
+    }
+}
+
+pub fn remainder_common(x: u64, xw: u16, y: u64, yw: u16, kind: Kind) -> Quick
+    requires { ⌜ (normals x xw y yw ≡ true) × (fieldOf yw ≤ fieldOf xw) ⌝ }
+    ensures { λ r. ⌜ record { number = 0; value = joined (r .value); quotient = r .quotient } ≡ remainder x87 kind (words xw x) (words yw y) ⌝ }
+{
+    let field = field_of(yw);
+    let left = divide(x, y, (field_of(xw) - field) as u32);
+    let settled = settle(kind, 32768 <= xw, left, y);
+    Quick {
+        value: written(settled.negative, settled.rest, field),
+        quotient: quotient_bits(settled.quotient),
+    }
+}
