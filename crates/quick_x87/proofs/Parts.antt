@@ -45,3 +45,9 @@ module _ (w s : ℕ) (high : w < 2 ^ 16) (low : s < 2 ^ 64) where
         below-top = omega (arith, field-is, ltb-true (fieldOf w) 32767 (a .1));
         leads = omega (arith, significand-is, leb-true (2 ^ 63) s (b .0));
       }
+
+-- both operands
+pub words-normals : (x xw y yw : ℕ) → x < 2 ^ 64 → xw < 2 ^ 16 → y < 2 ^ 64 → yw < 2 ^ 16 → normals x xw y yw ≡ true → Normal x87 (words xw x) × Normal x87 (words yw y)
+words-normals x xw y yw hx hxw hy hyw e =
+    let b = and-both (normal x xw) (normal y yw) e in
+    (words-normal xw x hxw hx (b .0), words-normal yw y hyw hy (b .1))
