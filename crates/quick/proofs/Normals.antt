@@ -1,5 +1,6 @@
 -- What a normal pattern stands for, and what the definition answers for two patterns that stand for numbers, in every format. Assumes nothing.
 use mathlib.Core.Path.{_≡_, sym, ap, _∙_}
+use mathlib.Core.Bool.{false}
 use Prim.Native.Nat.{ℕ, suc, _+_, _-_, _*_, _/_, _%_, _^_, _≤_, _<_}
 use native.Mathlib.Nat.{mul-pos, lt-of-lt-of-le}
 use native.Mathlib.Omega.{arith}
@@ -9,7 +10,7 @@ use Rattle.digits.proofs.Tests.{not-zero}
 use Rattle.definitions.specs.Class.{Value, finite}
 use Rattle.definitions.specs.Format.{Format, Regular, topField, leading, hiddenPart, fieldWeight, signWeight, fieldsClass, classOf, patternOf}
 use Rattle.definitions.specs.Numbers.{first}
-use Rattle.definitions.specs.Facts.{refusedValue}
+use Rattle.definitions.specs.Facts.{refusedValue, denormal}
 use Rattle.definitions.specs.Division.{finishBy, finish}
 use Rattle.definitions.specs.Remainder.{Remainder, quotientBits, remainderOf, remainder}
 use Rattle.definitions.specs.declared.Kind.{Kind}
@@ -50,6 +51,10 @@ module _ (f : Format) (b : ℕ) where
         let t = b % fieldWeight f in
         let e : suc j ≡ exponentField f b = omega arith in
         ap (λ (i : ℕ). fieldsClass (f .layout) f (leb (signWeight f) b) i t) (sym e) ∙ high-read (f .layout) f (leb (signWeight f) b) j t (omega arith) (n .leads)
+
+    pub normal-denormal : denormal f b ≡ false
+    unfolding denormal
+    normal-denormal = simp (not-zero (exponentField f b) (n .some))
 
 -- the answer of an accepted call
 abbrev pub answerOf : Format → Value → ℕ → Remainder

@@ -3,18 +3,22 @@
 // below that the quotient is zero, the dividend is kept. Everything else goes the general way. Only crates of this repository call these.
 use definitions::Kind;
 use definitions::Pattern;
+use definitions::StepsAnswer;
 use division::divide;
 use quick::margin;
 use quick::settle;
 use quotients::quotient_bits;
+use quotients::shifted;
 ghost use mathlib.Core.Path.{_≡_};
-ghost use mathlib.Core.Bool.{true, _&&_};
+ghost use mathlib.Core.Bool.{true};
 ghost use Prim.Native.Nat.{_+_, _-_, _*_, _^_, _≤_, _<_};
 ghost use lib.Dec.{ltb};
 ghost use Rattle.definitions.specs.Class.{finite};
 ghost use Rattle.definitions.specs.Format.{x87, words, patternOf};
 ghost use Rattle.definitions.specs.Remainder.{remainder};
-ghost use Rattle.definitions.specs.Answers.{joined};
+ghost use Rattle.definitions.specs.Reports.{nothing, sized, stepReport};
+ghost use Rattle.definitions.specs.Answers.{stepMeaning, joined};
+ghost use Rattle.definitions.specs.declared.Kind.{Kind};
 ghost use Rattle.quick.specs.Common.{marginOf};
 ghost use Rattle.quick_x87.specs.Common.{fieldOf, normal, normals};
 
@@ -106,5 +110,43 @@ pub fn remainder_common(x: u64, xw: u16, y: u64, yw: u16, kind: Kind) -> Quick
     Quick {
         value: written(settled.negative, settled.rest, field),
         quotient: quotient_bits(settled.quotient),
+    }
+}
+
+// A partial step: of the quotient's `gap` places the first `size` are taken, and both kinds cut.
+fn cut_common(x: u64, xw: u16, y: u64, yw: u16, size: u32, gap: u32) -> Quick
+    requires { ⌜ (normals x xw y yw ≡ true) × (gap + fieldOf yw ≡ fieldOf xw) × (64 ≤ gap) × (sized size ≡ true) ⌝ }
+    ensures { λ r. ⌜ ((κ : Kind) → record { number = 1; value = joined (r .value); quotient = r .quotient; steps = 1 } ≡ stepReport nothing κ size (words xw x) (words yw y)) ⌝ }
+{
+    let left = divide(x, y, size);
+    let quotient = shifted(left.quotient, gap - size);
+    Quick {
+        value: written(32768 <= xw, left.remainder, field_of(xw) - (size as u64)),
+        quotient: quotient_bits(quotient),
+    }
+}
+
+// A step of the common case: below 64 places it finishes, with the remainder.
+pub fn step_common(x: u64, xw: u16, y: u64, yw: u16, size: u32, kind: Kind) -> StepsAnswer
+    requires { ⌜ (normals x xw y yw ≡ true) × (fieldOf yw ≤ fieldOf xw) × (sized size ≡ true) ⌝ }
+    ensures { λ r. ⌜ stepMeaning r ≡ stepReport nothing kind size (words xw x) (words yw y) ⌝ }
+{
+    let gap = (field_of(xw) - field_of(yw)) as u32;
+    if gap < 64 {
+        let quick = remainder_common(x, xw, y, yw, kind);
+        let value = quick.value;
+        StepsAnswer::Finished {
+            value,
+            quotient: quick.quotient,
+            steps: 1,
+        }
+    } else {
+        let quick = cut_common(x, xw, y, yw, size, gap);
+        let value = quick.value;
+        StepsAnswer::Unfinished {
+            value,
+            quotient: quick.quotient,
+            steps: 1,
+        }
     }
 }

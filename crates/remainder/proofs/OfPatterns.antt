@@ -17,9 +17,8 @@ use Rattle.operands.specs.declared.Operand.{Operand}
 use Rattle.operands.specs.Operand.{operandOf, classIn, divisorOperand}
 use Rattle.shapes.specs.declared.shape.Shape.{Shape}
 use Rattle.shapes.specs.Shape.{formatOf, shapeOf, Sound}
-use Rattle.digits.proofs.Tests.{not-zero}
 use Rattle.pairs.specs.Divisions.{divisorDivisions, divisions}
-use Rattle.quick.proofs.Normals.{exponentField, Normal}
+use Rattle.quick.proofs.Normals.{Normal, normal-denormal}
 use Rattle.packing.proofs.Standing.{class-pattern}
 
 module _ (f : Format) (ok : Sound f) (h : Shape) (of : h ≡ shapeOf f) (x y : ℕ) (o p : Operand)
@@ -44,12 +43,8 @@ module _ (f : Format) (κ : Kind) (x y : ℕ) where
   unfolding remainderMeaning
   finished-answer v q a e = λ i. ap remainderMeaning e ∙ i
 
-  normal-field : (b : ℕ) → Normal f b → denormal f b ≡ false
-  unfolding denormal
-  normal-field b n = simp (not-zero (exponentField f b) (n .some))
-
   pub normals-denormal : Normal f x → Normal f y → false ≡ toldDenormal f (remainder f κ x y .number) x y
-  normals-denormal nx ny = sym (told-always f κ x y (pos 0) .0 ∙ rw (normal-field x nx, normal-field y ny))
+  normals-denormal nx ny = sym (told-always f κ x y (pos 0) .0 ∙ rw (normal-denormal f x nx, normal-denormal f y ny))
 
 -- binary64 has a word alone
 pub word-answer : (κ : Kind) (x y v q : ℕ) (a : RemainderAnswer) → a ≡ Finished (record { high = 0; low = v }) q

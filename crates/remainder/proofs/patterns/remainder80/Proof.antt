@@ -9,10 +9,9 @@ use Rattle.definitions.specs.Remainder.{remainder}
 use Rattle.definitions.specs.Answers.{remainderMeaning, joined}
 use Rattle.definitions.specs.declared.RemainderAnswer.the-variants.{Finished}
 use Rattle.definitions.specs.declared.RemainderTold.{RemainderTold}
-use Rattle.quick.proofs.Normals.{Normal}
 use Rattle.quick_x87.specs.declared.Quick.{Quick}
 use Rattle.quick_x87.specs.Common.{normals}
-use Rattle.quick_x87.proofs.Parts.{words-normals}
+use Rattle.quick_x87.proofs.Parts.{Parts, both}
 use Rattle.remainder.proofs.OfPatterns.{finished-answer, normals-denormal}
 use borrow.Author.Needs.{needs}
 use Rattle.remainder.proofs.patterns.remainder80.Statement.{statement}
@@ -47,15 +46,15 @@ module _ (c : tie.Else1) where
   test : normals (start .args .x) (start .args .xw) (start .args .y) (start .args .yw) ≡ true
   test = sym (c .before .are-normal .ensures) ∙ not-false _ (c .if1 .left)
 
-  both : Normal x87 x × Normal x87 y
-  both = let f = start .fits in words-normals _ _ _ _ (f .x .fits) (f .xw .fits) (f .y .fits) (f .yw .fits) test
+  pair : Parts (start .args .x) (start .args .xw) × Parts (start .args .y) (start .args .yw)
+  pair = let f = start .fits in both _ _ _ _ (f .x .fits) (f .xw .fits) (f .y .fits) (f .yw .fits) test
 
   -- what a quick way answers is told
   answered : (q : Quick) (r : RemainderTold) → (r .answer ≡ Finished (q .value) (q .quotient)) × (r .denormal ≡ false)
       → record { number = 0; value = joined (q .value); quotient = q .quotient } ≡ remainder x87 (start .args .kind) x y
       → (remainderMeaning (r .answer) ≡ remainder x87 (start .args .kind) x y) × (r .denormal ≡ toldDenormal x87 (remainder x87 (start .args .kind) x y .number) x y)
   answered q r t e =
-      (finished-answer x87 (start .args .kind) x y (q .value) (q .quotient) (r .answer) (t .0) e, t .1 ∙ normals-denormal x87 (start .args .kind) x y (both .0) (both .1))
+      (finished-answer x87 (start .args .kind) x y (q .value) (q .quotient) (r .answer) (t .0) e, t .1 ∙ normals-denormal x87 (start .args .kind) x y (pair .0 .normal) (pair .1 .normal))
 
 remainder-kept-requires : tie.Need-remainder-kept-requires
 remainder-kept-requires c κs =
