@@ -4,11 +4,15 @@
 use definitions::Kind;
 use definitions::Pattern;
 use definitions::StepsAnswer;
+use division::Divided;
 use division::divide;
+use division::divide_once;
 use quick::margin;
 use quick::settle;
 use quotients::quotient_bits;
 use quotients::shifted;
+use reciprocals::divide_words;
+use reciprocals::reciprocal;
 ghost use mathlib.Core.Path.{_≡_};
 ghost use mathlib.Core.Bool.{true};
 ghost use Prim.Native.Nat.{_+_, _-_, _*_, _^_, _≤_, _<_};
@@ -19,6 +23,7 @@ ghost use Rattle.definitions.specs.Remainder.{remainder};
 ghost use Rattle.definitions.specs.Reports.{nothing, sized, stepReport};
 ghost use Rattle.definitions.specs.Answers.{stepMeaning, joined};
 ghost use Rattle.definitions.specs.declared.Kind.{Kind};
+ghost use Rattle.division.specs.Divided.{dividedOf};
 ghost use Rattle.quick.specs.Common.{marginOf};
 ghost use Rattle.quick_x87.specs.Common.{fieldOf, normal, normals};
 
@@ -39,10 +44,11 @@ fn field_of(word: u16) -> u64
     (word % 32768) as u64
 }
 
+// One test for both ends of the fields: with one added the last is 0, and the first is 1.
 fn is_normal(significand: u64, word: u16) -> bool
     ensures { λ r. ⌜ r ≡ normal significand word ⌝ }
 {
-    LEADING <= significand && 0 < field_of(word) && field_of(word) < 32767
+    LEADING <= significand && 1 < (field_of(word) + 1) % 32768
 }
 
 pub fn are_normal(x: u64, xw: u16, y: u64, yw: u16) -> bool
@@ -100,12 +106,38 @@ fn written(negative: bool, significand: u64, field: u64) -> Pattern
     }
 }
 
+// One turn of the engine.
+fn divide_turn(a: u64, b: u64, places: u32) -> Divided
+    requires { ⌜ (2 ^ 63 ≤ b) × (places < 64) ⌝ }
+    ensures { λ r. ⌜ r ≡ dividedOf a b places ⌝ }
+{
+    let divided = divide_words(a / 2 >> (63 - places), a << places, b, reciprocal(b));
+    Divided {
+        remainder: divided.remainder,
+        quotient: (divided.quotient % 4294967296) as u32,
+    }
+}
+
+// As the engine divides, with its cases below 64 places compiled in here.
+fn divide_quick(a: u64, b: u64, places: u32) -> Divided
+    requires { ⌜ 2 ^ 63 ≤ b ⌝ }
+    ensures { λ r. ⌜ r ≡ dividedOf a b places ⌝ }
+{
+    if places <= u64::trailing_zeros(b) {
+        return divide_once(a, b, places);
+    }
+    if places < 64 {
+        return divide_turn(a, b, places);
+    }
+    divide(a, b, places)
+}
+
 pub fn remainder_common(x: u64, xw: u16, y: u64, yw: u16, kind: Kind) -> Quick
     requires { ⌜ (normals x xw y yw ≡ true) × (fieldOf yw ≤ fieldOf xw) ⌝ }
     ensures { λ r. ⌜ record { number = 0; value = joined (r .value); quotient = r .quotient } ≡ remainder x87 kind (words xw x) (words yw y) ⌝ }
 {
     let field = field_of(yw);
-    let left = divide(x, y, (field_of(xw) - field) as u32);
+    let left = divide_quick(x, y, (field_of(xw) - field) as u32);
     let settled = settle(kind, 32768 <= xw, left, y);
     Quick {
         value: written(settled.negative, settled.rest, field),
@@ -118,7 +150,7 @@ fn cut_common(x: u64, xw: u16, y: u64, yw: u16, size: u32, gap: u32) -> Quick
     requires { ⌜ (normals x xw y yw ≡ true) × (gap + fieldOf yw ≡ fieldOf xw) × (64 ≤ gap) × (sized size ≡ true) ⌝ }
     ensures { λ r. ⌜ ((κ : Kind) → record { number = 1; value = joined (r .value); quotient = r .quotient; steps = 1 } ≡ stepReport nothing κ size (words xw x) (words yw y)) ⌝ }
 {
-    let left = divide(x, y, size);
+    let left = divide_quick(x, y, size);
     let quotient = shifted(left.quotient, gap - size);
     Quick {
         value: written(32768 <= xw, left.remainder, field_of(xw) - (size as u64)),

@@ -24,8 +24,8 @@ module _ (s : tie.Start) where
   small : s .args .size ≤ 63
   small = sized-bounds (s .args .size) (s .pre .3) .1
 
-divide-requires : tie.Need-divide-requires
-divide-requires c κs = pair c .1 .leads
+divide-quick-requires : tie.Need-divide-quick-requires
+divide-quick-requires c κs = pair c .1 .leads
 
 sub-shifted : tie.Need-sub-shifted
 sub-shifted c = omega (arith, small (c .before), c .before .pre .2)
@@ -58,10 +58,10 @@ returns c κ =
     let p = pair s in
     let q = a .x * 2 ^ a .size / a .y in
     let places : a .gap - a .size + a .size ≡ exponentField x87 (words (a .xw) (a .x)) - exponentField x87 (words (a .yw) (a .y)) = omega (arith, small s, s .pre .1, s .pre .2, p .0 .field, p .1 .field) in
-    let rest = ap (λ (l : Divided). l .remainder) (d .divide .ensures) in
+    let rest = ap (λ (l : Divided). l .remainder) (d .divide-quick .ensures) in
     let field = f .field-of .ensures ∙ sym (p .0 .field) in
     let part : f .before .shifted .result ≡ q * 2 ^ (a .gap - a .size) % 2 ^ 32 =
-    f .before .shifted .ensures ∙ ap (λ (l : Divided). l .quotient * 2 ^ (a .gap - a .size) % 2 ^ 32) (d .divide .ensures) ∙ mod-times q (2 ^ (a .gap - a .size)) (2 ^ 32) in
+    f .before .shifted .ensures ∙ ap (λ (l : Divided). l .quotient * 2 ^ (a .gap - a .size) % 2 ^ 32) (d .divide-quick .ensures) ∙ mod-times q (2 ^ (a .gap - a .size)) (2 ^ 32) in
     let quotient = c .quotient-bits .ensures ∙ ap quotientBits part ∙ bits-low (q * 2 ^ (a .gap - a .size)) in
     (λ i. record {
       number = 1;
@@ -76,7 +76,7 @@ pub cut-common-spec : {M : Type 1} → statement M
 cut-common-spec =
     tie.close
     (tie.spec
-    divide-requires
+    divide-quick-requires
     sub-shifted
     shifted-requires
     field-of-requires

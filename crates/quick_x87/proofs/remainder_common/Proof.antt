@@ -46,28 +46,28 @@ field-of-requires c κs = search needs
 field-of-requires-2 : tie.Need-field-of-requires-2
 field-of-requires-2 c κs = search needs
 
-sub-divide : tie.Need-sub-divide
-sub-divide c = search needs
+sub-divide-quick : tie.Need-sub-divide-quick
+sub-divide-quick c = search needs
 
-cast-divide : tie.Need-cast-divide
-cast-divide c = search needs
+cast-divide-quick : tie.Need-cast-divide-quick
+cast-divide-quick c = search needs
 
-divide-requires : tie.Need-divide-requires
-divide-requires c κs = pair (c .before .before) .1 .leads
+divide-quick-requires : tie.Need-divide-quick-requires
+divide-quick-requires c κs = pair (c .before .before) .1 .leads
 
 -- what is left of them
-module _ (c : tie.After-divide) where
+module _ (c : tie.After-divide-quick) where
   abbrev start : tie.Start
   start = c .before .before .before
 
   abbrev left : Divided
-  left = c .divide .result
+  left = c .divide-quick .result
 
   field-is : c .before .before .field-of .result ≡ exponentField x87 (y start)
   field-is = c .before .before .field-of .ensures ∙ sym (pair start .1 .field)
 
   left-is : left ≡ dividedOf (start .args .x) (start .args .y) (exponentField x87 (x start) - exponentField x87 (y start))
-  left-is = c .divide .ensures ∙ (λ i. dividedOf (start .args .x) (start .args .y) ((c .before .field-of2 .ensures ∙ sym (pair start .0 .field)) i - field-is i))
+  left-is = c .divide-quick .ensures ∙ (λ i. dividedOf (start .args .x) (start .args .y) ((c .before .field-of2 .ensures ∙ sym (pair start .0 .field)) i - field-is i))
 
   below : left .remainder < start .args .y
   below = left-below x87 0 (x start) (y start) (start .args .x) (start .args .y) (pair start .0 .normal) (pair start .1 .normal) (ordered start) (x-word start) (y-word start) left left-is
@@ -104,9 +104,9 @@ remainder-common-spec =
     (tie.spec
     field-of-requires
     field-of-requires-2
-    sub-divide
-    cast-divide
-    divide-requires
+    sub-divide-quick
+    cast-divide-quick
+    divide-quick-requires
     settle-requires
     written-requires
     quotient-bits-requires
