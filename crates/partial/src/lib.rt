@@ -5,14 +5,14 @@ use division::divide;
 use operands::Divisor;
 use operands::Operand;
 use operands::Unpacked;
-use operands::power_of_two;
 use pairs::Left;
 use pairs::finish_pair;
 use pairs::gap;
 use pairs::settle;
+use quotients::shifted;
 ghost use mathlib.Core.Path.{_≡_};
 ghost use mathlib.Core.Bool.{true};
-ghost use Prim.Native.Nat.{_*_, _%_, _-_, _^_, _≤_};
+ghost use Prim.Native.Nat.{_-_, _≤_};
 ghost use lib.IntN.{pos, _-ℤ_};
 ghost use Rattle.definitions.specs.Format.{x87};
 ghost use Rattle.definitions.specs.Steps.{cutAt, stepBy, step};
@@ -27,16 +27,6 @@ ghost use Rattle.partial.specs.Stepped.{steppedOf};
 pub struct Stepped {
     pub done: bool,
     pub left: Left,
-}
-
-// The low 32 bits of a quotient part that ends in so many zeros.
-fn shifted(quotient: u32, places: u32) -> u32
-    ensures { λ r. ⌜ r ≡ quotient * 2 ^ places % 2 ^ 32 ⌝ }
-{
-    if 32 <= places {
-        return 0;
-    }
-    ((quotient as u64) * power_of_two(places) % 4294967296) as u32
 }
 
 // A partial step: of the quotient's `places` the first `size` are taken, and both kinds cut.

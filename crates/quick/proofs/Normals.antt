@@ -1,66 +1,66 @@
--- What two patterns of the common case stand for, and what the definition answers for them. Assumes nothing.
-use mathlib.Core.Path.{_≡_, ap}
-use mathlib.Core.Bool.{true, _&&_}
-use Prim.Native.Nat.{ℕ, _+_, _-_, _*_, _%_, _^_, _≤_, _<_}
-use native.Mathlib.Nat.{add-comm, mul-pos}
+-- What a normal pattern stands for, and what the definition answers for two patterns that stand for numbers, in every format. Assumes nothing.
+use mathlib.Core.Path.{_≡_, sym, ap, _∙_}
+use mathlib.Core.Bool.{false}
+use Prim.Native.Nat.{ℕ, suc, _+_, _-_, _*_, _/_, _%_, _^_, _≤_, _<_}
+use native.Mathlib.Nat.{mul-pos, lt-of-lt-of-le}
 use native.Mathlib.Omega.{arith}
-use borrow.Author.Tests.{ltb-true, leb-true, ne-eqb}
-use lib.Dec.{ltb, leb}
+use lib.Dec.{leb}
 use lib.Pow.{pow-pos}
-use Rattle.digits.proofs.Tests.{and-both, not-zero}
+use Rattle.digits.proofs.Tests.{not-zero}
 use Rattle.definitions.specs.Class.{Value, finite}
-use Rattle.definitions.specs.Format.{binary64, classOf, patternOf}
+use Rattle.definitions.specs.Format.{Format, Regular, topField, leading, hiddenPart, fieldWeight, signWeight, fieldsClass, classOf, patternOf}
 use Rattle.definitions.specs.Numbers.{first}
-use Rattle.definitions.specs.Facts.{refusedValue}
+use Rattle.definitions.specs.Facts.{refusedValue, denormal}
 use Rattle.definitions.specs.Division.{finishBy, finish}
 use Rattle.definitions.specs.Remainder.{Remainder, quotientBits, remainderOf, remainder}
 use Rattle.definitions.specs.declared.Kind.{Kind}
-use Rattle.quick.specs.Common.{fieldOf, common}
+use Rattle.laws.proofs.Layouts.{weight, high-read}
+use Rattle.laws.proofs.Pattern.{rest-small}
 
--- the exponent fields of the common case
-pub record Fields (x y : ℕ) : Type 0 where
-  pub below-top : fieldOf x < 2047
-  pub some : 0 < fieldOf y
-  pub order : fieldOf y ≤ fieldOf x
+-- the parts of a pattern, and its value if it is normal
+abbrev pub exponentField : Format → ℕ → ℕ
+exponentField f b = b / fieldWeight f % (topField f + 1)
 
-pub fields : (x y : ℕ) → common x y ≡ true → Fields x y
-fields x y e =
-    let a = and-both (ltb (fieldOf x) 2047 && ltb 0 (fieldOf y)) (leb (fieldOf y) (fieldOf x)) e in
-    let b = and-both (ltb (fieldOf x) 2047) (ltb 0 (fieldOf y)) (a .0) in
-    record { below-top = ltb-true (fieldOf x) 2047 (b .0); some = ltb-true 0 (fieldOf y) (b .1); order = leb-true (fieldOf y) (fieldOf x) (a .1) }
+abbrev pub normalSignificand : Format → ℕ → ℕ
+normalSignificand f b = hiddenPart (f .layout) (leading f) + b % fieldWeight f
 
--- the value of a normal pattern
-abbrev pub significandOf : ℕ → ℕ
-significandOf b = b % 2 ^ 52 + 2 ^ 52
+abbrev pub normalValue : Format → ℕ → Value
+normalValue f b = record { negative = leb (signWeight f) b; count = normalSignificand f b * 2 ^ (exponentField f b - 1) }
 
-abbrev pub valueOf : ℕ → Value
-valueOf b = record { negative = leb (2 ^ 63) b; count = significandOf b * 2 ^ (fieldOf b - 1) }
+-- a normal pattern: neither the first field nor the last, and a leading digit
+pub record Normal (f : Format) (b : ℕ) : Type 0 where
+  pub some : 0 < exponentField f b
+  pub below-top : exponentField f b < topField f
+  pub leads : leading f ≤ normalSignificand f b
 
-pub count-pos : (b : ℕ) → 0 < valueOf b .count
-count-pos b = mul-pos (omega arith) (pow-pos (fieldOf b - 1))
+module _ (f : Format) (b : ℕ) where
+  pub significand-small : Regular f → normalSignificand f b < leading f + leading f
+  significand-small r = omega (arith, weight (f .layout) f r, rest-small f b)
 
-pub normal-class : (b : ℕ) → 0 < fieldOf b → fieldOf b < 2047 → classOf binary64 b ≡ finite (valueOf b)
-unfolding classOf
-normal-class b some low =
-    simp (ne-eqb (fieldOf b) 2047 (λ h. omega arith), not-zero (fieldOf b) some)
-    (ap (λ (k : ℕ). finite (record { negative = leb (2 ^ 63) b; count = k * 2 ^ (fieldOf b - 1) })) (add-comm (2 ^ 52) (b % 2 ^ 52)))
+  module _ (n : Normal f b) where
+    pub significand-pos : 0 < normalSignificand f b
+    significand-pos = lt-of-lt-of-le (pow-pos (f .precision - 1)) (n .leads)
+
+    pub count-pos : 0 < normalValue f b .count
+    count-pos = mul-pos significand-pos (pow-pos (exponentField f b - 1))
+
+    pub normal-class : classOf f b ≡ finite (normalValue f b)
+    unfolding classOf
+    normal-class =
+        let j = exponentField f b - 1 in
+        let t = b % fieldWeight f in
+        let e : suc j ≡ exponentField f b = omega arith in
+        ap (λ (i : ℕ). fieldsClass (f .layout) f (leb (signWeight f) b) i t) (sym e) ∙ high-read (f .layout) f (leb (signWeight f) b) j t (omega arith) (n .leads)
+
+    pub normal-denormal : denormal f b ≡ false
+    unfolding denormal
+    normal-denormal = simp (not-zero (exponentField f b) (n .some))
 
 -- the answer of an accepted call
-abbrev pub answerOf : Value → ℕ → Remainder
-answerOf v q = record { number = 0; value = patternOf binary64 (finite v); quotient = quotientBits q }
+abbrev pub answerOf : Format → Value → ℕ → Remainder
+answerOf f v q = record { number = 0; value = patternOf f (finite v); quotient = quotientBits q }
 
-pub normals-answer : (κ : Kind) (x y : ℕ) → classOf binary64 x ≡ finite (valueOf x) → classOf binary64 y ≡ finite (valueOf y)
-    → let r = finishBy κ (valueOf y .count) (valueOf x) in remainder binary64 κ x y ≡ answerOf (r .value) (r .whole)
+pub normals-answer : (f : Format) (κ : Kind) (x y : ℕ) → Normal f x → Normal f y
+    → let r = finishBy κ (normalValue f y .count) (normalValue f x) in remainder f κ x y ≡ answerOf f (r .value) (r .whole)
 unfolding remainder remainderOf first finish refusedValue
-normals-answer κ x y dividend divisor = rw (dividend, divisor, not-zero (valueOf y .count) (count-pos y))
-
--- both operands, and the definition's answer for them
-module _ (x y : ℕ) (fs : Fields x y) where
-  pub dividend : classOf binary64 x ≡ finite (valueOf x)
-  dividend = normal-class x (omega arith) (fs .below-top)
-
-  pub divisor : classOf binary64 y ≡ finite (valueOf y)
-  divisor = normal-class y (fs .some) (omega arith)
-
-  pub answer : (κ : Kind) → let r = finishBy κ (valueOf y .count) (valueOf x) in remainder binary64 κ x y ≡ answerOf (r .value) (r .whole)
-  answer κ = normals-answer κ x y dividend divisor
+normals-answer f κ x y nx ny = rw (normal-class f x nx, normal-class f y ny, not-zero (normalValue f y .count) (count-pos f y ny))

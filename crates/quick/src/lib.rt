@@ -69,7 +69,7 @@ pub fn is_common(x: u64, y: u64) -> bool
 }
 
 // How many fields a dividend has to lie further below its divisor, where the quotient may go up.
-fn margin(kind: Kind) -> u64
+pub fn margin(kind: Kind) -> u64
     ensures { λ r. ⌜ r ≡ marginOf kind ⌝ }
 {
     match kind {

@@ -1,6 +1,6 @@
 // What an answer tells of a quotient: its low bits, and a sign.
 ghost use mathlib.Core.Path.{_≡_};
-ghost use Prim.Native.Nat.{_<_};
+ghost use Prim.Native.Nat.{_*_, _%_, _^_, _<_};
 ghost use Rattle.definitions.specs.Class.{signed};
 ghost use Rattle.definitions.specs.Remainder.{quotientModulus, quotientBits, shown};
 
@@ -19,6 +19,13 @@ pub fn shown_bits(quotient: u32) -> u8
     ensures { λ r. ⌜ r ≡ shown quotient ⌝ }
 {
     (quotient % SHOWN_MODULUS) as u8
+}
+
+// The low 32 bits of a quotient part that ends in so many zeros.
+pub fn shifted(quotient: u32, places: u32) -> u32
+    ensures { λ r. ⌜ r ≡ quotient * 2 ^ places % 2 ^ 32 ⌝ }
+{
+    if 32 <= places { 0 } else { quotient << places }
 }
 
 // Quotient bits with the sign of x/y. Only crates of this repository call it, with bits that are told.

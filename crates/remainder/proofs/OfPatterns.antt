@@ -1,14 +1,15 @@
 -- The remainder of operands that are those of patterns is that of the patterns, in every format. Assumes nothing.
 use mathlib.Core.Path.{_≡_, sym, ap, _∙_}
 use mathlib.Core.Bool.{Bool, false, _||_}
-use Prim.Native.Nat.{ℕ, _<_}
+use Prim.Native.Nat.{ℕ}
 use native.Mathlib.Nat.{zero-add}
 use lib.IntN.{pos}
 use Rattle.definitions.specs.Format.{Format, binary64, classOf}
 use Rattle.definitions.specs.Facts.{denormal, toldDenormal}
 use Rattle.definitions.specs.Remainder.{remainderOf, remainder}
-use Rattle.definitions.specs.Answers.{remainderMeaning}
+use Rattle.definitions.specs.Answers.{remainderMeaning, joined}
 use Rattle.definitions.specs.declared.Kind.{Kind}
+use Rattle.definitions.specs.declared.Pattern.{Pattern}
 use Rattle.definitions.specs.declared.RemainderAnswer.{RemainderAnswer}
 use Rattle.definitions.specs.declared.RemainderAnswer.the-variants.{Finished}
 use Rattle.definitions.proofs.Facts.{told-always}
@@ -16,9 +17,8 @@ use Rattle.operands.specs.declared.Operand.{Operand}
 use Rattle.operands.specs.Operand.{operandOf, classIn, divisorOperand}
 use Rattle.shapes.specs.declared.shape.Shape.{Shape}
 use Rattle.shapes.specs.Shape.{formatOf, shapeOf, Sound}
-use Rattle.digits.proofs.Tests.{not-zero}
 use Rattle.pairs.specs.Divisions.{divisorDivisions, divisions}
-use Rattle.quick.specs.Common.{fieldOf}
+use Rattle.quick.proofs.Normals.{Normal, normal-denormal}
 use Rattle.packing.proofs.Standing.{class-pattern}
 
 module _ (f : Format) (ok : Sound f) (h : Shape) (of : h ≡ shapeOf f) (x y : ℕ) (o p : Operand)
@@ -36,15 +36,17 @@ module _ (f : Format) (ok : Sound f) (h : Shape) (of : h ≡ shapeOf f) (x y : �
   unfolding divisions
   patterns-divisions n e = e ∙ (λ i. divisorDivisions (ox i) (divisorOperand (py i)))
 
--- two normal patterns of binary64: their answer as the code has it, and neither is denormal
-pub normals-answer : (κ : Kind) (x y v q : ℕ) (a : RemainderAnswer) → a ≡ Finished (record { high = 0; low = v }) q
+-- two normal patterns: their answer as the code has it, and neither is denormal
+module _ (f : Format) (κ : Kind) (x y : ℕ) where
+  pub finished-answer : (v : Pattern) (q : ℕ) (a : RemainderAnswer) → a ≡ Finished v q → record { number = 0; value = joined v; quotient = q } ≡ remainder f κ x y
+      → remainderMeaning a ≡ remainder f κ x y
+  unfolding remainderMeaning
+  finished-answer v q a e = λ i. ap remainderMeaning e ∙ i
+
+  pub normals-denormal : Normal f x → Normal f y → false ≡ toldDenormal f (remainder f κ x y .number) x y
+  normals-denormal nx ny = sym (told-always f κ x y (pos 0) .0 ∙ rw (normal-denormal f x nx, normal-denormal f y ny))
+
+-- binary64 has a word alone
+pub word-answer : (κ : Kind) (x y v q : ℕ) (a : RemainderAnswer) → a ≡ Finished (record { high = 0; low = v }) q
     → record { number = 0; value = v; quotient = q } ≡ remainder binary64 κ x y → remainderMeaning a ≡ remainder binary64 κ x y
-unfolding remainderMeaning
-normals-answer κ x y v q a f e = ap remainderMeaning f ∙ rw (zero-add v) e
-
-normal : (b : ℕ) → 0 < fieldOf b → denormal binary64 b ≡ false
-unfolding denormal
-normal b h = simp (not-zero (fieldOf b) h)
-
-pub normals-denormal : (κ : Kind) (x y : ℕ) → 0 < fieldOf x → 0 < fieldOf y → false ≡ toldDenormal binary64 (remainder binary64 κ x y .number) x y
-normals-denormal κ x y hx hy = sym (told-always binary64 κ x y (pos 0) .0 ∙ rw (normal x hx, normal y hy))
+word-answer κ x y v q a f e = finished-answer binary64 κ x y (record { high = 0; low = v }) q a f (rw (zero-add v) e)

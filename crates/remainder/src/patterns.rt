@@ -60,22 +60,27 @@ pub struct ToldCounted {
 }
 
 // A pair of normal numbers is never refused, and neither is denormal.
+fn told(value: Pattern, quotient: u32) -> RemainderTold
+    ensures answer { λ r. ⌜ r .answer ≡ Finished value quotient ⌝ }
+    ensures denormal { λ r. ⌜ r .denormal ≡ false ⌝ }
+{
+    RemainderTold {
+        answer: RemainderAnswer::Finished { value, quotient },
+        denormal: false,
+    }
+}
+
 fn told_of(quick: Quick) -> ToldCounted
     ensures answer { λ r. ⌜ r .told .answer ≡ Finished (record { high = 0; low = quick .value }) (quick .quotient) ⌝ }
     ensures denormal { λ r. ⌜ r .told .denormal ≡ false ⌝ }
     ensures divisions { λ r. ⌜ r .divisions ≡ quick .divisions ⌝ }
 {
+    let value = Pattern {
+        high: 0,
+        low: quick.value,
+    };
     ToldCounted {
-        told: RemainderTold {
-            answer: RemainderAnswer::Finished {
-                value: Pattern {
-                    high: 0,
-                    low: quick.value,
-                },
-                quotient: quick.quotient,
-            },
-            denormal: false,
-        },
+        told: told(value, quick.quotient),
         divisions: quick.divisions,
     }
 }
@@ -126,8 +131,8 @@ pub fn remainder64(x: u64, y: u64, kind: Kind) -> RemainderTold
     remainder64_counted(x, y, kind).told
 }
 
-// An x87 operand is a significand and a sign and exponent word.
-pub fn remainder80(x: u64, xw: u16, y: u64, yw: u16, kind: Kind) -> RemainderTold
+// An x87 operand is a significand and a sign and exponent word. Any two of them:
+fn remainder80_general(x: u64, xw: u16, y: u64, yw: u16, kind: Kind) -> RemainderTold
     ensures answer { λ r. ⌜ remainderMeaning (r .answer) ≡ remainder x87 kind (words xw x) (words yw y) ⌝ }
     ensures denormal { λ r. ⌜ r .denormal ≡ toldDenormal x87 (remainder x87 kind (words xw x) (words yw y) .number) (words xw x) (words yw y) ⌝ }
 {
@@ -137,4 +142,29 @@ pub fn remainder80(x: u64, xw: u16, y: u64, yw: u16, kind: Kind) -> RemainderTol
         answer: remainder_of(X87::shape(), dividend, divisor, kind),
         denormal: any_denormal80(x, xw, y, yw),
     }
+}
+
+fn told_of80(quick: quick_x87::Quick) -> RemainderTold
+    ensures answer { λ r. ⌜ r .answer ≡ Finished (quick .value) (quick .quotient) ⌝ }
+    ensures denormal { λ r. ⌜ r .denormal ≡ false ⌝ }
+{
+    let value = quick.value;
+    told(value, quick.quotient)
+}
+
+// As for binary64, normal numbers have ways of their own, and the general way two callers.
+pub fn remainder80(x: u64, xw: u16, y: u64, yw: u16, kind: Kind) -> RemainderTold
+    ensures answer { λ r. ⌜ remainderMeaning (r .answer) ≡ remainder x87 kind (words xw x) (words yw y) ⌝ }
+    ensures denormal { λ r. ⌜ r .denormal ≡ toldDenormal x87 (remainder x87 kind (words xw x) (words yw y) .number) (words xw x) (words yw y) ⌝ }
+{
+    if !quick_x87::are_normal(x, xw, y, yw) {
+        return remainder80_general(x, xw, y, yw, kind);
+    }
+    if quick_x87::is_below(xw, yw) {
+        if quick_x87::is_kept(xw, yw, kind) {
+            return told_of80(quick_x87::remainder_kept(x, xw, y, yw, kind));
+        }
+        return remainder80_general(x, xw, y, yw, kind);
+    }
+    told_of80(quick_x87::remainder_common(x, xw, y, yw, kind))
 }

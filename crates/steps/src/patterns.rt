@@ -5,6 +5,9 @@ use definitions::Kind;
 use definitions::StepsTold;
 use facts::patterns::any_denormal80;
 use formats::x87::X87;
+use quick_x87::are_normal;
+use quick_x87::is_below;
+use quick_x87::step_common;
 ghost use mathlib.Core.Path.{_≡_};
 ghost use mathlib.Core.Bool.{_&&_, _||_};
 ghost use Rattle.definitions.specs.Format.{x87, words};
@@ -19,7 +22,8 @@ fn told_denormal(x: u64, xw: u16, y: u64, yw: u16, size: u32) -> bool
     is_sized(size) && any_denormal80(x, xw, y, yw)
 }
 
-pub fn step80(x: u64, xw: u16, y: u64, yw: u16, size: u32, kind: Kind) -> StepsTold
+// Any two patterns.
+fn step80_general(x: u64, xw: u16, y: u64, yw: u16, size: u32, kind: Kind) -> StepsTold
     ensures answer { λ r. ⌜ stepMeaning (r .answer) ≡ stepReport nothing kind size (words xw x) (words yw y) ⌝ }
     ensures denormal { λ r. ⌜ r .denormal ≡ toldDenormal x87 (stepReport nothing kind size (words xw x) (words yw y) .number) (words xw x) (words yw y) ⌝ }
 {
@@ -28,6 +32,27 @@ pub fn step80(x: u64, xw: u16, y: u64, yw: u16, size: u32, kind: Kind) -> StepsT
     StepsTold {
         answer: call(dividend, divisor, size, kind, 1),
         denormal: told_denormal(x, xw, y, yw, size),
+    }
+}
+
+// Two normal numbers have a way of their own, where the dividend's field is not below the divisor's. The general way has callers enough not
+// to be compiled into it.
+pub fn step80(x: u64, xw: u16, y: u64, yw: u16, size: u32, kind: Kind) -> StepsTold
+    ensures answer { λ r. ⌜ stepMeaning (r .answer) ≡ stepReport nothing kind size (words xw x) (words yw y) ⌝ }
+    ensures denormal { λ r. ⌜ r .denormal ≡ toldDenormal x87 (stepReport nothing kind size (words xw x) (words yw y) .number) (words xw x) (words yw y) ⌝ }
+{
+    if !is_sized(size) {
+        return step80_general(x, xw, y, yw, size, kind);
+    }
+    if !are_normal(x, xw, y, yw) {
+        return step80_general(x, xw, y, yw, size, kind);
+    }
+    if is_below(xw, yw) {
+        return step80_general(x, xw, y, yw, size, kind);
+    }
+    StepsTold {
+        answer: step_common(x, xw, y, yw, size, kind),
+        denormal: false,
     }
 }
 

@@ -1,7 +1,7 @@
 -- `remainder_common` meets its contract: its calls, put together. Assumes nothing.
-use mathlib.Core.Path.{_≡_, refl, sym, ap, _∙_}
+use mathlib.Core.Path.{_≡_, sym, ap, _∙_}
 use mathlib.Core.Bool.{Bool, true, false}
-use Prim.Native.Nat.{ℕ, _-_, _%_, _^_, _≤_, _<_}
+use Prim.Native.Nat.{ℕ, _-_, _*_, _%_, _^_, _≤_, _<_}
 use native.Mathlib.Omega.{arith}
 use lib.Dec.{leb}
 use Rattle.definitions.specs.Format.{binary64}
@@ -11,12 +11,13 @@ use Rattle.division.specs.declared.Divided.{Divided}
 use Rattle.division.specs.Divided.{dividedOf}
 use Rattle.division.specs.Divisions.{divisionsOf}
 use Rattle.pairs.specs.Divisions.{divisions}
-use Rattle.quick.specs.Common.{fieldOf, spreadOf}
+use Rattle.quick.specs.Common.{fieldOf}
 use Rattle.quick.specs.Settled.{settledOf}
 use Rattle.quick.specs.declared.Settled.{Settled}
-use Rattle.quick.proofs.Normals.{Fields, fields}
+use Rattle.quick.proofs.Normals.{normalSignificand}
+use Rattle.quick.proofs.Fields.{Fields, fields, dividend, divisor, spread-is}
 use Rattle.quick.proofs.Operands.{divisions-are}
-use Rattle.quick.proofs.Scaled.{told, settledAnswer, told-settled, left-below, left-ends, left-answer}
+use Rattle.quick.proofs.Scaled.{settledAnswer, left-below, left-ends, left-answer}
 use borrow.Author.Needs.{needs}
 use Rattle.quick.proofs.remainder_common.Statement.{statement}
 use Rattle.quick.proofs.remainder_common.Tie as tie
@@ -58,14 +59,14 @@ module _ (c : tie.After-divide-quick) where
   abbrev left : Divided
   left = c .divide-quick .result .divided
 
-  abbrev divisor : ℕ
-  divisor = c .before .before .before .before .spread .result
+  abbrev a : ℕ
+  a = c .before .before .spread2 .result
+
+  abbrev b : ℕ
+  b = c .before .before .before .before .spread .result
 
   abbrev field : ℕ
   field = c .before .before .before .field-of .result
-
-  divisor-is : divisor ≡ spreadOf y
-  divisor-is = c .before .before .before .before .spread .ensures
 
   field-is : field ≡ fieldOf y
   field-is = c .before .before .before .field-of .ensures
@@ -73,16 +74,23 @@ module _ (c : tie.After-divide-quick) where
   ordered : Fields x y
   ordered = fields x y (start .pre)
 
-  left-is : left ≡ dividedOf (spreadOf x) (spreadOf y) (fieldOf x - fieldOf y)
-  left-is = c .divide-quick .ensures .0 ∙ (λ i. dividedOf (c .before .before .spread2 .ensures i) (divisor-is i) (c .before .field-of2 .ensures i - field-is i))
+  a-is : a ≡ normalSignificand binary64 x * 2 ^ 11
+  a-is = c .before .before .spread2 .ensures ∙ spread-is x
+
+  b-is : b ≡ normalSignificand binary64 y * 2 ^ 11
+  b-is = c .before .before .before .before .spread .ensures ∙ spread-is y
+
+  left-is : left ≡ dividedOf a b (fieldOf x - fieldOf y)
+  left-is = c .divide-quick .ensures .0 ∙ (λ i. dividedOf a b (c .before .field-of2 .ensures i - field-is i))
 
   count-is : c .divide-quick .result .divisions ≡ divisions binary64 x y
   count-is =
-      c .divide-quick .ensures .1 ∙ (λ i. divisionsOf (c .before .before .spread2 .ensures i) (divisor-is i) (c .before .field-of2 .ensures i - field-is i))
-      ∙ sym (divisions-are x y ordered)
+      c .divide-quick .ensures .1
+      ∙ (λ i. divisionsOf (c .before .before .spread2 .ensures i) (c .before .before .before .before .spread .ensures i) (c .before .field-of2 .ensures i - field-is i))
+      ∙ sym (divisions-are x y (dividend x y ordered) (divisor x y ordered) (ordered .order))
 
-  below : left .remainder < divisor
-  below = omega (arith, divisor-is, left-below x y left left-is)
+  below : left .remainder < b
+  below = left-below binary64 11 x y a b (dividend x y ordered) (divisor x y ordered) (ordered .order) a-is b-is left left-is
 
   low : 1 ≤ field
   low = omega (arith, field-is, ordered)
@@ -91,31 +99,29 @@ module _ (c : tie.After-divide-quick) where
   high = omega (arith, field-is, ordered)
 
   ends : left .remainder % 2 ^ 11 ≡ 0
-  ends = left-ends x y left left-is
+  ends = left-ends binary64 11 x y a b (dividend x y ordered) (divisor x y ordered) (ordered .order) a-is b-is left left-is
 
-  missing-ends : (divisor - left .remainder) % 2 ^ 11 ≡ 0
-  missing-ends = omega (arith, divisor-is, ends, below)
+  missing-ends : (b - left .remainder) % 2 ^ 11 ≡ 0
+  missing-ends = omega (arith, b-is, ends, below)
 
-  answer : (u : Bool) → u ≡ roundsUp (start .args .kind) (left .quotient) (left .remainder) divisor
-      → remainder binary64 (start .args .kind) x y ≡ told u (leb (2 ^ 63) x) left divisor field
-  answer u e =
-      left-answer x y left left-is ordered (start .args .kind) u (e ∙ ap (roundsUp (start .args .kind) (left .quotient) (left .remainder)) divisor-is)
-      ∙ (λ i. told u (leb (2 ^ 63) x) left (sym divisor-is i) (sym field-is i))
+  answer : (S : Settled) → S ≡ settledOf (roundsUp (start .args .kind) (left .quotient) (left .remainder) b) (leb (2 ^ 63) x) left b
+      → settledAnswer binary64 11 S field ≡ remainder binary64 (start .args .kind) x y
+  answer S e =
+      ap (settledAnswer binary64 11 S) field-is
+      ∙ left-answer binary64 11 x y a b (dividend x y ordered) (divisor x y ordered) (ordered .order) a-is b-is left left-is (start .args .kind) S e
 
 settle-requires : tie.Need-settle-requires
 settle-requires c κs = below c
 
 -- what is settled
-module _ (c : tie.After-settle) where
-  abbrev decided : Bool
-  decided = roundsUp (start (c .before) .args .kind) (left (c .before) .quotient) (left (c .before) .remainder) (divisor (c .before))
-
-  settled-ends : c .settle .result .rest % 2 ^ 11 ≡ 0
-  settled-ends = rw (c .settle .ensures) (go decided)
-    where
-      go : (u : Bool) → settledOf u (leb (2 ^ 63) (x (c .before))) (left (c .before)) (divisor (c .before)) .rest % 2 ^ 11 ≡ 0
-      go true = missing-ends (c .before)
-      go false = ends (c .before)
+settled-ends : (c : tie.After-settle) → c .settle .result .rest % 2 ^ 11 ≡ 0
+settled-ends c =
+    let d = c .before in
+    rw (c .settle .ensures) (go d (roundsUp (start d .args .kind) (left d .quotient) (left d .remainder) (b d)))
+  where
+    go : (d : tie.After-divide-quick) (u : Bool) → settledOf u (leb (2 ^ 63) (x d)) (left d) (b d) .rest % 2 ^ 11 ≡ 0
+    go d true = missing-ends d
+    go d false = ends d
 
 written-requires : tie.Need-written-requires
 written-requires c κs = let d = c .before in (settled-ends c, low d, high d)
@@ -125,12 +131,9 @@ quotient-bits-requires c κs = search needs
 
 returns : tie.Need-returns
 returns c =
-    let s = c .before .before in
-    let d = s .before in
-    let settled = ap (λ (z : Settled). settledAnswer z (field d)) (s .settle .ensures) in (
-      (λ i. record { number = 0; value = c .before .written .ensures i; quotient = c .quotient-bits .ensures i }) ∙ settled
-          ∙ told-settled (decided s) (leb (2 ^ 63) (x d)) (left d) (divisor d) (field d) ∙ sym (answer d (decided s) refl),
-      count-is d,
+    let s = c .before .before in (
+      (λ i. record { number = 0; value = c .before .written .ensures i; quotient = c .quotient-bits .ensures i }) ∙ answer (s .before) (s .settle .result) (s .settle .ensures),
+      count-is (s .before),
     )
 
 pub remainder-common-spec : {M : Type 1} → statement M

@@ -1,5 +1,5 @@
 -- `written` meets its contract: it is zero, or its leading one reaches the top, or not. Assumes nothing.
-use mathlib.Core.Path.{_≡_, sym, _∙_}
+use mathlib.Core.Path.{_≡_, refl, sym, _∙_}
 use mathlib.Core.Bool.{cond}
 use mathlib.Core.Logic.{⊎-elim}
 use Prim.Native.Nat.{_-_, _*_, _/_, _^_}
@@ -7,7 +7,9 @@ use native.Mathlib.Nat.{pos-of-ne-zero, zero-mul}
 use native.Mathlib.Omega.{arith}
 use lib.Count.{leading-le}
 use Rattle.digits.proofs.Shift.{leading-under}
-use Rattle.quick.proofs.Magnitude.{Given, zero-pattern, normal-fits, normal, denormal-fits, denormal}
+use Rattle.definitions.specs.Format.{binary64}
+use Rattle.quick.proofs.Magnitude.{Given}
+use Rattle.quick.proofs.Pattern.{zero-pattern, normal-fits, normal, denormal-fits, denormal}
 use borrow.Author.Needs.{needs}
 use Rattle.quick.proofs.written.Statement.{statement}
 use Rattle.quick.proofs.written.Tie as tie
@@ -16,10 +18,10 @@ sign-is : (c : tie.Joined1) → c .if1 .sign ≡ cond (c .before .args .negative
 sign-is c = ⊎-elim (λ w. w .1 ∙ rw (w .0 .taken)) (λ w. w .1 ∙ rw (w .0 .left)) (c .if1 .came)
 
 -- what is known of a significand that is not zero
-given : (c : tie.Else2) → let a = c .before .before .args in Given (a .negative) (c .before .if1 .sign) (a .significand) (a .field)
+given : (c : tie.Else2) → let a = c .before .before .args in Given binary64 11 (a .significand) (a .field)
 given c =
     let s = c .before .before in
-    record { signed = sign-is (c .before); ends = s .pre .0; some = pos-of-ne-zero (c .if2 .left); word = s .fits .significand .fits; low = s .pre .1; high = s .pre .2 }
+    record { full = refl; ends = s .pre .0; some = pos-of-ne-zero (c .if2 .left); word = s .fits .significand .fits; low = s .pre .1 }
 
 returns : tie.Need-returns
 returns c =
@@ -48,7 +50,7 @@ add-result-2 : tie.Need-add-result-2
 add-result-2 c =
     let e = c .before .before in
     let a = e .before .before .args in
-    record { fits = normal-fits (a .negative) (e .before .if1 .sign) (a .significand) (a .field) (given e) }
+    record { fits = normal-fits (a .negative) (e .before .if1 .sign) (a .significand) (a .field) (sign-is (e .before)) (given e) (e .before .before .pre .2) }
 
 sub-result-3 : tie.Need-sub-result-3
 sub-result-3 c = search needs
@@ -60,19 +62,19 @@ add-result-3 : tie.Need-add-result-3
 add-result-3 c =
     let e = c .before .before in
     let a = e .before .before .args in
-    record { fits = denormal-fits (a .negative) (e .before .if1 .sign) (a .significand) (a .field) (given e) (c .before .if3 .left) }
+    record { fits = denormal-fits (a .negative) (e .before .if1 .sign) (a .significand) (a .field) (sign-is (e .before)) (given e) (c .before .if3 .left) }
 
 returns-2 : tie.Need-returns-2
 returns-2 c =
     let e = c .before .before in
     let a = e .before .before .args in
-    normal (a .negative) (e .before .if1 .sign) (a .significand) (a .field) (given e) (c .before .if3 .taken)
+    normal (a .negative) (e .before .if1 .sign) (a .significand) (a .field) (sign-is (e .before)) (given e) (c .before .if3 .taken)
 
 returns-3 : tie.Need-returns-3
 returns-3 c =
     let e = c .before .before in
     let a = e .before .before .args in
-    denormal (a .negative) (e .before .if1 .sign) (a .significand) (a .field) (given e) (c .before .if3 .left)
+    denormal (a .negative) (e .before .if1 .sign) (a .significand) (a .field) (sign-is (e .before)) (given e) (c .before .if3 .left)
 
 pub written-spec : {M : Type 1} → statement M
 written-spec =

@@ -1,14 +1,11 @@
 -- `remainder64_counted` meets its contract: two normal numbers by their own ways, and any two patterns by the general one. Assumes nothing.
 use mathlib.Core.Path.{_≡_, sym, _∙_}
 use Prim.Native.Nat.{ℕ, _+_, _/_, _≤_}
-use native.Mathlib.Nat.{lt-of-lt-of-le}
-use native.Mathlib.Omega.{arith}
 use Rattle.definitions.specs.Format.{binary64, classOf}
 use Rattle.pairs.specs.Divisions.{divisions, gapOf}
 use Rattle.pairs.proofs.Divisions.{few-divisions}
-use Rattle.quick.proofs.Normals.{fields}
-use Rattle.quick.proofs.Below.{below}
-use Rattle.remainder.proofs.OfPatterns.{normals-answer, normals-denormal}
+use Rattle.quick.proofs.Fields.{fields, dividend, divisor, below, dividend-below, divisor-above}
+use Rattle.remainder.proofs.OfPatterns.{word-answer, normals-denormal}
 use borrow.Author.Needs.{needs}
 use Rattle.remainder.proofs.patterns.remainder64_counted.Statement.{statement}
 use Rattle.remainder.proofs.patterns.remainder64_counted.Tie as tie
@@ -36,8 +33,8 @@ returns c =
     let k = c .before .before in
     let a = k .before .before .before .before .args in
     let f = below (a .kind) (a .x) (a .y) (sym (k .before .is-kept .ensures) ∙ k .if2 .taken) in (
-      normals-answer (a .kind) (a .x) (a .y) (q .result .value) (q .result .quotient) (t .result .told .answer) (t .ensures .0) (q .ensures .0),
-      (t .ensures .1 .0 ∙ normals-denormal (a .kind) (a .x) (a .y) (f .some) (omega arith), counted (a .x) (a .y) _ (t .ensures .1 .1 ∙ q .ensures .1)),
+      word-answer (a .kind) (a .x) (a .y) (q .result .value) (q .result .quotient) (t .result .told .answer) (t .ensures .0) (q .ensures .0),
+      (t .ensures .1 .0 ∙ normals-denormal binary64 (a .kind) (a .x) (a .y) (dividend-below (a .kind) (a .x) (a .y) f) (divisor-above (a .kind) (a .x) (a .y) f), counted (a .x) (a .y) _ (t .ensures .1 .1 ∙ q .ensures .1)),
     )
 
 remainder64-general-requires : tie.Need-remainder64-general-requires
@@ -65,8 +62,8 @@ returns-3 c =
     let k = c .before .before in
     let a = k .before .before .before .before .args in
     let f = fields (a .x) (a .y) (sym (k .before .is-common .ensures) ∙ k .if3 .taken) in (
-      normals-answer (a .kind) (a .x) (a .y) (q .result .value) (q .result .quotient) (t .result .told .answer) (t .ensures .0) (q .ensures .0),
-      (t .ensures .1 .0 ∙ normals-denormal (a .kind) (a .x) (a .y) (lt-of-lt-of-le (f .some) (f .order)) (f .some), counted (a .x) (a .y) _ (t .ensures .1 .1 ∙ q .ensures .1)),
+      word-answer (a .kind) (a .x) (a .y) (q .result .value) (q .result .quotient) (t .result .told .answer) (t .ensures .0) (q .ensures .0),
+      (t .ensures .1 .0 ∙ normals-denormal binary64 (a .kind) (a .x) (a .y) (dividend (a .x) (a .y) f) (divisor (a .x) (a .y) f), counted (a .x) (a .y) _ (t .ensures .1 .1 ∙ q .ensures .1)),
     )
 
 remainder64-general-requires-2 : tie.Need-remainder64-general-requires-2
