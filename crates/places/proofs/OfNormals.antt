@@ -18,8 +18,9 @@ use Rattle.prepared.specs.Prepared.{shownOf}
 use Rattle.quick.specs.Common.{fieldOf, spreadOf}
 use Rattle.quick.specs.Settled.{settledOf}
 use Rattle.quick.specs.declared.Settled.{Settled}
-use Rattle.quick.proofs.Normals.{Fields, dividend}
-use Rattle.quick.proofs.Scaled.{told, settledAnswer, left-ends, left-answer}
+use Rattle.quick.proofs.Normals.{normal-class}
+use Rattle.quick.proofs.Fields.{Fields, dividend, divisor, spread-is}
+use Rattle.quick.proofs.Scaled.{settledAnswer, left-ends, left-answer}
 use Rattle.places.specs.Places.{placeAt}
 use Rattle.places.proofs.OnePlace.{placed}
 
@@ -29,18 +30,20 @@ up-shown Truncated q r m = refl
 up-shown Nearest q r m = let e : q % 8 % 2 ≡ q % 2 ^ 32 % 2 = omega arith in rw e
 
 -- what is settled of a left-over with three bits of its quotient, and of one with more of them
-same-value : (u n : Bool) (r p q b f : ℕ) → settledAnswer (settledOf u n (record { remainder = r; quotient = p }) b) f .value ≡ told u n (record { remainder = r; quotient = q }) b f .value
+same-value : (u n : Bool) (r p q b f : ℕ)
+    → settledAnswer binary64 11 (settledOf u n (record { remainder = r; quotient = p }) b) f .value
+    ≡ settledAnswer binary64 11 (settledOf u n (record { remainder = r; quotient = q }) b) f .value
 same-value true n r p q b f = refl
 same-value false n r p q b f = refl
 
 -- the next quotient, cut in two ways
-next : (p q : ℕ) → p % 8 ≡ q % 8 → (p + 1) % 2 ^ 32 % 8 ≡ (q + 1) % 2 ^ 31 % 8
+next : (p q : ℕ) → p % 8 ≡ q % 8 → (p + 1) % 2 ^ 32 % 8 ≡ (q + 1) % 2 ^ 32 % 2 ^ 31 % 8
 next p q e = omega arith
 
-same-byte : (u n : Bool) (r q b f : ℕ)
-    → shown (settledOf u n (record { remainder = r; quotient = q % 8 }) b .quotient) ≡ shown (told u n (record { remainder = r; quotient = q % 2 ^ 32 }) b f .quotient)
-same-byte true n r q b f = next (q % 8) (q % 2 ^ 32) (omega arith)
-same-byte false n r q b f = omega arith
+same-byte : (u n : Bool) (r q b : ℕ)
+    → shown (settledOf u n (record { remainder = r; quotient = q % 8 }) b .quotient) ≡ shown (quotientBits (settledOf u n (record { remainder = r; quotient = q % 2 ^ 32 }) b .quotient))
+same-byte true n r q b = next (q % 8) (q % 2 ^ 32) (omega arith)
+same-byte false n r q b = omega arith
 
 module _ (κ : Kind) (x y : ℕ) (fs : Fields x y) (left : Divided) (is : left ≡ shownOf (spreadOf x) (spreadOf y) (fieldOf x - fieldOf y)) where
   abbrev exact : Divided
@@ -56,26 +59,28 @@ module _ (κ : Kind) (x y : ℕ) (fs : Fields x y) (left : Divided) (is : left �
   below = rw is (mod-lt _ (omega arith))
 
   pub ends : left .remainder % 2 ^ 11 ≡ 0
-  ends = rw is (left-ends x y exact refl)
+  ends = rw is (left-ends binary64 11 x y (spreadOf x) (spreadOf y) (dividend x y fs) (divisor x y fs) (fs .order) (spread-is x) (spread-is y) exact refl)
 
-  answer : remainder binary64 κ x y ≡ told up (leb (2 ^ 63) x) exact (spreadOf y) (fieldOf y)
-  answer = left-answer x y exact refl fs κ up (rw is (up-shown κ (spreadOf x * 2 ^ (fieldOf x - fieldOf y) / spreadOf y) _ (spreadOf y)))
+  answer : settledAnswer binary64 11 (settledOf up (leb (2 ^ 63) x) exact (spreadOf y)) (fieldOf y) ≡ remainder binary64 κ x y
+  answer =
+      left-answer binary64 11 x y (spreadOf x) (spreadOf y) (dividend x y fs) (divisor x y fs) (fs .order) (spread-is x) (spread-is y) exact refl κ _
+      (ap (λ (u : Bool). settledOf u (leb (2 ^ 63) x) exact (spreadOf y)) (rw is (up-shown κ (spreadOf x * 2 ^ (fieldOf x - fieldOf y) / spreadOf y) _ (spreadOf y))))
 
   -- a value and a byte that are those of what is settled
-  module _ (v b : ℕ) (ev : v ≡ settledAnswer settled (fieldOf y) .value) (eb : b ≡ shown (settled .quotient)) where
+  module _ (v b : ℕ) (ev : v ≡ settledAnswer binary64 11 settled (fieldOf y) .value) (eb : b ≡ shown (settled .quotient)) where
     value-is : v ≡ resultAt κ y x
     unfolding resultAt
     value-is =
-        ev ∙ ap (λ (l : Divided). settledAnswer (settledOf up (leb (2 ^ 63) x) l (spreadOf y)) (fieldOf y) .value) is
-        ∙ same-value up (leb (2 ^ 63) x) (exact .remainder) _ (exact .quotient) (spreadOf y) (fieldOf y) ∙ sym (ap (λ (r : Remainder). r .value) answer)
+        ev ∙ ap (λ (l : Divided). settledAnswer binary64 11 (settledOf up (leb (2 ^ 63) x) l (spreadOf y)) (fieldOf y) .value) is
+        ∙ same-value up (leb (2 ^ 63) x) (exact .remainder) _ (exact .quotient) (spreadOf y) (fieldOf y) ∙ ap (λ (r : Remainder). r .value) answer
 
     byte-is : b ≡ byteAt κ y x
     unfolding byteAt
     byte-is =
-        rw (dividend x y fs)
+        rw (normal-class binary64 x (dividend x y fs))
         (eb ∙ ap (λ (l : Divided). shown (settledOf up (leb (2 ^ 63) x) l (spreadOf y) .quotient)) is
-        ∙ same-byte up (leb (2 ^ 63) x) (exact .remainder) (spreadOf x * 2 ^ (fieldOf x - fieldOf y) / spreadOf y) (spreadOf y) (fieldOf y)
-        ∙ sym (ap (λ (r : Remainder). shown (r .quotient)) answer))
+        ∙ same-byte up (leb (2 ^ 63) x) (exact .remainder) (spreadOf x * 2 ^ (fieldOf x - fieldOf y) / spreadOf y) (spreadOf y)
+        ∙ ap (λ (r : Remainder). shown (r .quotient)) answer)
 
     pub normal-place : record { value = v; byte = b } ≡ placeAt κ y x
     normal-place = placed κ y x v b value-is byte-is

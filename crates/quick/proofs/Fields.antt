@@ -12,7 +12,7 @@ use Rattle.definitions.specs.declared.Kind.{Kind}
 use Rattle.quick.specs.Common.{fieldOf, spreadOf, common, marginOf, kept}
 use Rattle.quick.proofs.Normals.{normalSignificand, Normal}
 
-normal : (b : ℕ) → 0 < fieldOf b → fieldOf b < 2047 → Normal binary64 b
+pub normal : (b : ℕ) → 0 < fieldOf b → fieldOf b < 2047 → Normal binary64 b
 normal b some low = record { some = some; below-top = low; leads = omega arith }
 
 -- the code's significand is the pattern's, with eleven spare bits

@@ -8,7 +8,8 @@ use Rattle.definitions.specs.Format.{binary64, classOf}
 use Rattle.definitions.specs.Numbers.{first}
 use Rattle.definitions.specs.Fold.{dividingList}
 use Rattle.quick.specs.Common.{fieldOf}
-use Rattle.quick.proofs.Normals.{valueOf, count-pos, normal-class}
+use Rattle.quick.proofs.Normals.{normalValue, count-pos, normal-class}
+use Rattle.quick.proofs.Fields.{normal}
 use borrow.Author.Needs.{needs}
 use Rattle.fold.proofs.judge.Statement.{statement}
 use Rattle.fold.proofs.judge.Tie as tie
@@ -18,7 +19,9 @@ field-of-requires c κs = search needs
 
 normal-accepted : (y : ℕ) → 0 < fieldOf y → fieldOf y < 2047 → 0 ≡ first (dividingList (classOf binary64 y))
 unfolding first
-normal-accepted y some low = rw (normal-class y some low, not-zero (valueOf y .count) (count-pos y))
+normal-accepted y some low =
+    let n = normal y some low in
+    rw (normal-class binary64 y n, not-zero (normalValue binary64 y .count) (count-pos binary64 y n))
 
 returns : tie.Need-returns
 returns c =

@@ -4,6 +4,7 @@ use mathlib.Core.Bool.{Bool, true, false}
 use Prim.Native.Nat.{ℕ, _-_, _*_, _%_, _^_, _≤_, _<_}
 use native.Mathlib.Omega.{arith}
 use lib.Dec.{leb}
+use Rattle.definitions.specs.Format.{binary64}
 use Rattle.definitions.specs.Division.{roundsUp}
 use Rattle.definitions.specs.Remainder.{shown}
 use Rattle.division.specs.declared.Divided.{Divided}
@@ -11,7 +12,7 @@ use Rattle.prepared.specs.Prepared.{slotOf, shownOf}
 use Rattle.quick.specs.Common.{fieldOf, spreadOf}
 use Rattle.quick.specs.Settled.{settledOf}
 use Rattle.quick.specs.declared.Settled.{Settled}
-use Rattle.quick.proofs.Normals.{Fields, fields}
+use Rattle.quick.proofs.Fields.{Fields, fields}
 use Rattle.quick.proofs.Scaled.{settledAnswer}
 use Rattle.places.proofs.OfNormals.{below, ends, normal-place}
 use borrow.Author.Needs.{needs}
@@ -117,7 +118,7 @@ returns c =
     let s = c .before .before in
     let d = divided s in
     normal-place (start d .args .kind) (x d) (y d) (ordered d) (left d) (left-is d) (c .before .written .result) (c .shown-bits .result)
-    (c .before .written .ensures ∙ (λ i. settledAnswer (settled-is s i) (field-is d i) .value))
+    (c .before .written .ensures ∙ (λ i. settledAnswer binary64 11 (settled-is s i) (field-is d i) .value))
     (c .shown-bits .ensures ∙ ap (λ (t : Settled). shown (t .quotient)) (settled-is s))
 
 pub place-common-spec : {M : Type 1} → statement M

@@ -7,7 +7,7 @@ use borrow.Author.Tests.{not-true, not-false}
 use Rattle.digits.proofs.Tests.{clash}
 use Rattle.prepared.specs.Prepared.{slotOf}
 use Rattle.quick.specs.Common.{fieldOf, common}
-use Rattle.quick.proofs.Normals.{Fields, fields}
+use Rattle.quick.proofs.Fields.{Fields, fields}
 use borrow.Author.Needs.{needs}
 use Rattle.places.proofs.powers_for.Statement.{statement}
 use Rattle.places.proofs.powers_for.Tie as tie
