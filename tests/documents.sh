@@ -17,12 +17,12 @@ trap 'rm -f "$listed"' EXIT
 awk 'function flush() { if (crate != "") { sub(/[.]$/, "", text); n = split(text, names, ", "); for (i = 1; i <= n; i++) {
         gsub(/ /, "-", names[i]); print crate "/" names[i] } } crate = "" }
     /^## / { within = ($2 == "4.") }
-    within && /^- `[a-z_]*`: / { flush(); split($0, part, "`"); crate = part[2]; text = substr($0, index($0, ": ") + 2); next }
+    within && /^- `[a-z0-9_]*`: / { flush(); split($0, part, "`"); crate = part[2]; text = substr($0, index($0, ": ") + 2); next }
     crate != "" && /^  / { text = text substr($0, 2); next }
     { flush() }
     END { flush() }' docs/PROOF.md | sort > "$listed"
 ls crates/*/must-fail/*.edit | sed 's|crates/\(.*\)/must-fail/\(.*\)\.edit|\1/\2|' | sort | diff "$listed" - || say 'docs/PROOF.md lists other edits'
-for edit in $(grep -oh '`[a-z_]*/[a-z0-9-][a-z0-9-]*`' docs/PROOF.md | tr -d '`'); do
+for edit in $(grep -oh '`[a-z0-9_]*/[a-z0-9-][a-z0-9-]*`' docs/PROOF.md | tr -d '`'); do
     [ -e "crates/${edit%/*}/must-fail/${edit#*/}.edit" ] || [ -e "$edit" ] || [ -e "crates/$edit" ] || say "docs/PROOF.md: no edit $edit"
 done
 
