@@ -74,15 +74,6 @@ pub fn divide_by_counted(shape: Shape, x: Operand, y: Divisor, kind: Kind) -> Re
     }
 }
 
-// The same without the count: a list judges its divisor once.
-pub fn divide_by(shape: Shape, x: Operand, y: Divisor, kind: Kind) -> Residue
-    requires { ⌜ Sound (formatOf shape) × StandsValue (formatOf shape) x × StandsDivisor (formatOf shape) y ⌝ }
-    ensures value { λ r. ⌜ joined (r .value) ≡ patternOf (formatOf shape) (finite (finish kind (divisorIn (shape .smallest) y) (valueOperand (shape .smallest) x) .value)) ⌝ }
-    ensures quotient { λ r. ⌜ r .quotient ≡ quotientBits (finish kind (divisorIn (shape .smallest) y) (valueOperand (shape .smallest) x) .whole) ⌝ }
-{
-    divide_by_counted(shape, x, y, kind).residue
-}
-
 // An answer, and the divisions by the divisor's significand.
 pub struct AnswerCounted {
     pub answer: RemainderAnswer,
