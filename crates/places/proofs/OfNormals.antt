@@ -38,7 +38,16 @@ same-value false n r p q b f = refl
 
 -- the next quotient, cut in two ways
 next : (p q : ℕ) → p % 8 ≡ q % 8 → (p + 1) % 2 ^ 32 % 8 ≡ (q + 1) % 2 ^ 32 % 2 ^ 31 % 8
-next p q e = omega arith
+next p q e = low32 (p + 1) ∙ more p q e ∙ sym (low31 ((q + 1) % 2 ^ 32) ∙ low32 (q + 1))
+  where
+    low32 : (k : ℕ) → k % 2 ^ 32 % 8 ≡ k % 8
+    low32 k = omega arith
+
+    low31 : (k : ℕ) → k % 2 ^ 31 % 8 ≡ k % 8
+    low31 k = omega arith
+
+    more : (p q : ℕ) → p % 8 ≡ q % 8 → (p + 1) % 8 ≡ (q + 1) % 8
+    more p q e = omega arith
 
 same-byte : (u n : Bool) (r q b : ℕ)
     → shown (settledOf u n (record { remainder = r; quotient = q % 8 }) b .quotient) ≡ shown (quotientBits (settledOf u n (record { remainder = r; quotient = q % 2 ^ 32 }) b .quotient))
@@ -61,10 +70,13 @@ module _ (κ : Kind) (x y : ℕ) (fs : Fields x y) (left : Divided) (is : left �
   pub ends : left .remainder % 2 ^ 11 ≡ 0
   ends = rw is (left-ends binary64 11 x y (spreadOf x) (spreadOf y) (dividend x y fs) (divisor x y fs) (fs .order) (spread-is x) (spread-is y) exact refl)
 
+  up-is : up ≡ roundsUp κ (exact .quotient) (exact .remainder) (spreadOf y)
+  up-is = rw is (up-shown κ (spreadOf x * 2 ^ (fieldOf x - fieldOf y) / spreadOf y) (exact .remainder) (spreadOf y))
+
   answer : settledAnswer binary64 11 (settledOf up (leb (2 ^ 63) x) exact (spreadOf y)) (fieldOf y) ≡ remainder binary64 κ x y
   answer =
       left-answer binary64 11 x y (spreadOf x) (spreadOf y) (dividend x y fs) (divisor x y fs) (fs .order) (spread-is x) (spread-is y) exact refl κ _
-      (ap (λ (u : Bool). settledOf u (leb (2 ^ 63) x) exact (spreadOf y)) (rw is (up-shown κ (spreadOf x * 2 ^ (fieldOf x - fieldOf y) / spreadOf y) _ (spreadOf y))))
+      (ap (λ (u : Bool). settledOf u (leb (2 ^ 63) x) exact (spreadOf y)) up-is)
 
   -- a value and a byte that are those of what is settled
   module _ (v b : ℕ) (ev : v ≡ settledAnswer binary64 11 settled (fieldOf y) .value) (eb : b ≡ shown (settled .quotient)) where
