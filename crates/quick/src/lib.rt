@@ -98,6 +98,7 @@ pub fn remainder_kept(x: u64, y: u64, kind: Kind) -> Quick
 }
 
 // The pattern of a significand with eleven spare bits, at the place of a field: its leading zeros come off the field, as far as that goes.
+// A leading digit that reaches the top adds the one that the field lacks.
 pub fn written(negative: bool, significand: u64, field: u64) -> u64
     requires { ⌜ (significand % 2 ^ 11 ≡ 0) × (1 ≤ field) × (field < 2047) ⌝ }
     ensures { λ r. ⌜ r ≡ patternOf binary64 (finite (record { negative = negative; count = significand / 2 ^ 11 * 2 ^ (field - 1) })) ⌝ }
@@ -107,11 +108,8 @@ pub fn written(negative: bool, significand: u64, field: u64) -> u64
         return sign;
     }
     let zeros = u64::leading_zeros(significand) as u64;
-    if zeros < field {
-        sign + ((field - 1 - zeros) * UNIT + (significand << zeros) / 2048)
-    } else {
-        sign + (significand / 2048 << (field - 1))
-    }
+    let shift = if zeros < field { zeros } else { field - 1 };
+    sign + ((field - 1 - shift) * UNIT + (significand << shift) / 2048)
 }
 
 // The divisor ends in eleven zeros at least: where there are no more places, one division is enough, and is compiled in here.
