@@ -1,7 +1,7 @@
 #!/bin/sh
 # What the archive's machine code does without: symbols of other libraries and calls of the system, so that it can ask for no memory; data
-# that a call could change; and instructions that compute with floats or change how they are computed. Vector registers only move things;
-# stem files hold doubles, which are compared with themselves to tell a NaN.
+# that a call could change; and instructions that compute with floats or change how they are computed. Vector registers only move things,
+# two words side by side (punpcklqdq) among them; stem files hold doubles, which are compared with themselves to tell a NaN.
 # machine.sh ARCHIVE
 set -eu
 archive=${1:?usage: machine.sh ARCHIVE}
@@ -10,7 +10,7 @@ kept=$(objdump -h "$archive" | awk '$2 ~ /^[.](t?data|t?bss)/ && $2 !~ /rel[.]ro
 code=$(objdump -d --no-show-raw-insn "$archive")
 computed=$(echo "$code" | awk -F '\t' '/file format/ { stems = $1 ~ /^export_stems[.]o:/ }
     NF > 1 { split($2, word, " "); op = word[1] }
-    NF > 1 && ($2 ~ /%[xyz]?mm|%st/ || op ~ /^(f|cvt|v?(ld|st)mxcsr|xrstor|emms|syscall|sysenter|int$)/) && op !~ /^mov[a-z]*$/ &&
+    NF > 1 && ($2 ~ /%[xyz]?mm|%st/ || op ~ /^(f|cvt|v?(ld|st)mxcsr|xrstor|emms|syscall|sysenter|int$)/) && op !~ /^(mov[a-z]*|punpcklqdq)$/ &&
         !(stems && op == "ucomisd") { print "computes by " op }' | sort | uniq -c)
 count=$(echo "$code" | grep -c '^ .*:') || count=0
 [ "$count" -gt 0 ] || asked='has no code'

@@ -1,5 +1,5 @@
 // Folding of a list of binary64 patterns by one divisor, into lists that the caller lends. A list that is long enough prepares its divisor
-// once, and its elements share the powers of two that they want.
+// once, and its elements share the powers of two that they want. By a divisor that is not normal each element goes by a call of its own.
 use checks::list::judge_divisor;
 use checks::number_of;
 use checks::verdict_number;
@@ -49,7 +49,7 @@ fn fold_alone(x: &[u64], results: &mut [u64], quotients: &mut [u8], y: u64, kind
     marked
 }
 
-// The same by a prepared divisor. The table starts with one power, 1, and grows as far as the elements want.
+// The same by a prepared divisor. One that is not normal is prepared for nothing: no place asks for it. The table starts with one power, 1, and grows as far as the elements want.
 fn fold_prepared(x: &[u64], results: &mut [u64], quotients: &mut [u8], y: u64, kind: Kind) -> usize
     requires { ⌜ (first (dividingList (classOf binary64 y)) ≡ 0) × (length (now results) ≡ length (now x)) × (length (now quotients) ≡ length (now x)) ⌝ }
     ensures { λ r. ⌜ Filled kind y (now (x .entry)) (now (results .exit)) (now (quotients .exit)) r ⌝ }
@@ -74,6 +74,7 @@ fn fold_prepared(x: &[u64], results: &mut [u64], quotients: &mut [u8], y: u64, k
     marked
 }
 
+// Each list in the way that pays.
 fn fold_places(x: &[u64], results: &mut [u64], quotients: &mut [u8], y: u64, kind: Kind) -> usize
     requires { ⌜ (first (dividingList (classOf binary64 y)) ≡ 0) × (length (now results) ≡ length (now x)) × (length (now quotients) ≡ length (now x)) ⌝ }
     ensures { λ r. ⌜ Filled kind y (now (x .entry)) (now (results .exit)) (now (quotients .exit)) r ⌝ }

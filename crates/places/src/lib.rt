@@ -89,6 +89,7 @@ pub fn powers_for(x: u64, y: u64, divisor: Prepared, table: &mut [u64; 36], know
     extend(table, known, wanted, divisor)
 }
 
+// Two normal numbers by the prepared divisor, and all else by a call of its own.
 pub fn place_prepared(
     x: u64,
     y: u64,

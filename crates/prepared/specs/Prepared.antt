@@ -6,7 +6,7 @@ use lib.ListN.{getD, length}
 use Rattle.division.specs.declared.Divided.{Divided}
 use Rattle.prepared.specs.declared.Prepared.{Prepared}
 
--- a significand of 53 digits, with its reciprocal
+-- a significand of 53 digits, with its reciprocal, or one less
 pub record Fits (d : Prepared) : Type 0 where
   pub top : 2 ^ 52 ≤ d .significand
   pub word : d .significand < 2 ^ 53
@@ -28,7 +28,7 @@ pub record Powers (m n : ℕ) (table : List ℕ) : Type 0 where
 abbrev pub slotOf : ℕ → ℕ
 slotOf places = (places - 4) / 58
 
--- q and r do for n by m, as far as the remainder and what is shown of the quotient go
+-- n and q * m + r leave the same by m, and the same is shown of their quotients
 abbrev pub Shows : ℕ → ℕ → ℕ → ℕ → Type 0
 Shows n m q r = (n % m ≡ (q * m + r) % m) × (n / m % 8 ≡ (q * m + r) / m % 8)
 

@@ -1,4 +1,5 @@
-// Powers of two modulo a divisor, 58 places apart, in a table that is filled as far as they are wanted.
+// Powers of two modulo a divisor, 58 places apart, in a table that is filled as far as they are wanted. The widest gap is 2045, and
+// (2045 - 4) / 58 is 35: there are 36 of them.
 use crate::Prepared;
 use crate::REACH;
 use division::near::digit;
@@ -6,7 +7,8 @@ ghost use mathlib.Core.Path.{_≡_};
 ghost use Prim.Native.Nat.{_+_, _*_, _%_, _^_, _≤_, _<_};
 ghost use Rattle.prepared.specs.Prepared.{Fits, Powers, slotOf};
 
-// The power that a number of places starts from: at least four places are left, which tell what is shown of a quotient, and at most 61.
+// The power that a number of places starts from. From the second one on 4 to 61 places are left: three of them tell what is shown of a
+// quotient, and with 61 no word overflows.
 pub fn slot(places: u32) -> usize
     ensures { λ r. ⌜ r ≡ slotOf places ⌝ }
 {

@@ -27,7 +27,7 @@ ghost use Rattle.division.specs.Divided.{dividedOf};
 ghost use Rattle.quick.specs.Common.{marginOf};
 ghost use Rattle.quick_x87.specs.Common.{fieldOf, normal, normals};
 
-// A remainder of two normal numbers: it is never refused.
+// A remainder of two normal numbers, or what a partial step leaves of one: it is never refused.
 pub struct Quick {
     pub value: Pattern,
     pub quotient: u32,
@@ -106,7 +106,7 @@ fn written(negative: bool, significand: u64, field: u64) -> Pattern
     }
 }
 
-// One turn of the engine.
+// a × 2^places by b, by b's reciprocal: the first turn of the engine.
 fn divide_turn(a: u64, b: u64, places: u32) -> Divided
     requires { ⌜ (2 ^ 63 ≤ b) × (places < 64) ⌝ }
     ensures { λ r. ⌜ r ≡ dividedOf a b places ⌝ }

@@ -64,7 +64,7 @@ fn scale_of(shape: Shape, x: Operand, power: i32) -> ScaleAnswer
 }
 
 // Any pattern: taken apart, scaled and put together. Each format calls it, and so it is compiled into none of them, where a normal number
-// has a way of its own. Each call has another shape than that way has: one that both shared would be stored before the test.
+// has a way of its own. Each call makes its shape anew: one that both ways shared would be stored before the test.
 fn scale_general(shape: Shape, pattern: Pattern, power: i32) -> ScaleTold
     requires { ⌜ Sound (formatOf shape) × (joined pattern < patterns (formatOf shape)) ⌝ }
     ensures answer { λ r. ⌜ scaleMeaning (r .answer) ≡ scaleReport (formatOf shape) (joined pattern) power ⌝ }

@@ -63,7 +63,7 @@ fn split_of(shape: Shape, x: Operand) -> SplitAnswer
 }
 
 // Any pattern: taken apart, split and put together. Each format calls it, and so it is compiled into none of them, where a normal number
-// has a way of its own. Each call has another shape than that way has: one that both shared would be stored before the test.
+// has a way of its own. Each call makes its shape anew: one that both ways shared would be stored before the test.
 fn split_general(shape: Shape, pattern: Pattern) -> SplitTold
     requires { ⌜ Sound (formatOf shape) × (joined pattern < patterns (formatOf shape)) ⌝ }
     ensures answer { λ r. ⌜ splitMeaning (r .answer) ≡ splitReport (formatOf shape) (joined pattern) ⌝ }

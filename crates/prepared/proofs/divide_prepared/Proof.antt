@@ -16,26 +16,26 @@ use Rattle.prepared.proofs.divide_prepared.Tie as tie
 slot-requires : tie.Need-slot-requires
 slot-requires c κs = search needs
 
-divide-near-requires : tie.Need-divide-near-requires
-divide-near-requires c κs = search needs
+near-digit-requires : tie.Need-near-digit-requires
+near-digit-requires c κs = search needs
 
-mul-divide-far : tie.Need-mul-divide-far
-mul-divide-far c = search needs
+mul-far-digit : tie.Need-mul-far-digit
+mul-far-digit c = search needs
 
-element-copy-out-divide-far : tie.Need-element-copy-out-divide-far
-element-copy-out-divide-far c = search needs
+element-copy-out-far-digit : tie.Need-element-copy-out-far-digit
+element-copy-out-far-digit c = search needs
 
-cast-divide-far : tie.Need-cast-divide-far
-cast-divide-far c = search needs
+cast-far-digit : tie.Need-cast-far-digit
+cast-far-digit c = search needs
 
-mul-divide-far-2 : tie.Need-mul-divide-far-2
-mul-divide-far-2 c = search needs
+mul-far-digit-2 : tie.Need-mul-far-digit-2
+mul-far-digit-2 c = search needs
 
-sub-divide-far : tie.Need-sub-divide-far
-sub-divide-far c = search needs
+sub-far-digit : tie.Need-sub-far-digit
+sub-far-digit c = search needs
 
-divide-far-requires : tie.Need-divide-far-requires
-divide-far-requires c κs =
+far-digit-requires : tie.Need-far-digit-requires
+far-digit-requires c κs =
     let s = c .before .before .before in
     let f = s .pre .0 in
     let j = c .before .before .slot .result in
@@ -135,13 +135,13 @@ divide-prepared-spec =
     tie.close
     (tie.spec
     slot-requires
-    divide-near-requires
-    mul-divide-far
-    element-copy-out-divide-far
-    cast-divide-far
-    mul-divide-far-2
-    sub-divide-far
-    divide-far-requires
+    near-digit-requires
+    mul-far-digit
+    element-copy-out-far-digit
+    cast-far-digit
+    mul-far-digit-2
+    sub-far-digit
+    far-digit-requires
     mul-t23
     sub-t24
     mul-t25

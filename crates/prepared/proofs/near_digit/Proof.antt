@@ -1,10 +1,10 @@
--- `divide_near` meets its contract. Assumes nothing.
+-- `near_digit` meets its contract. Assumes nothing.
 use native.Mathlib.Omega.{arith}
 use lib.Dec.{lit<}
 use Rattle.division.proofs.Digits.{shifted-le}
 use borrow.Author.Needs.{needs}
-use Rattle.prepared.proofs.divide_near.Statement.{statement}
-use Rattle.prepared.proofs.divide_near.Tie as tie
+use Rattle.prepared.proofs.near_digit.Statement.{statement}
+use Rattle.prepared.proofs.near_digit.Tie as tie
 
 digit-requires : tie.Need-digit-requires
 digit-requires c κs =
@@ -15,5 +15,5 @@ digit-requires c κs =
 returns : tie.Need-returns
 returns c = search needs
 
-pub divide-near-spec : {M : Type 1} → statement M
-divide-near-spec = tie.close (tie.spec digit-requires returns)
+pub near-digit-spec : {M : Type 1} → statement M
+near-digit-spec = tie.close (tie.spec digit-requires returns)

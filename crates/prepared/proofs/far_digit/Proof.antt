@@ -1,4 +1,4 @@
--- `divide_far` meets its contract: the product loses whole divisors, and its left-over is shifted. Assumes nothing.
+-- `far_digit` meets its contract: the product loses whole divisors, and its left-over is shifted. Assumes nothing.
 use mathlib.Core.Path.{_≡_, sym, ap, _∙_}
 use Prim.Native.Nat.{ℕ, _+_, _*_, _/_, _%_, _^_, _≤_, _<_}
 use native.Mathlib.Nat.{mul-le-mul, le-of-lt, lt-of-lt-of-le, mul-add-mod-self-right, mul-comm}
@@ -10,8 +10,8 @@ use Rattle.division.proofs.Digits.{shifted-le}
 use Rattle.prepared.specs.Prepared.{Shows}
 use Rattle.prepared.proofs.Shown.{shows-same}
 use borrow.Author.Needs.{needs}
-use Rattle.prepared.proofs.divide_far.Statement.{statement}
-use Rattle.prepared.proofs.divide_far.Tie as tie
+use Rattle.prepared.proofs.far_digit.Statement.{statement}
+use Rattle.prepared.proofs.far_digit.Tie as tie
 
 low-requires : tie.Need-low-requires
 low-requires c κs = search needs
@@ -110,8 +110,8 @@ returns c =
       c .digit2 .ensures .1,
     )
 
-pub divide-far-spec : {M : Type 1} → statement M
-divide-far-spec =
+pub far-digit-spec : {M : Type 1} → statement M
+far-digit-spec =
     tie.close
     (tie.spec
     low-requires
