@@ -31,7 +31,8 @@ static void make(long n)
 {
     for (long i = 0; i < n; i++) {
         uint64_t low = 1000 + next() % 20;
-        printf("%016" PRIX64 " %016" PRIX64 "\n", pattern(low + next() % 60), pattern(low));
+        uint64_t x = pattern(low + next() % 60), y = pattern(low);
+        printf("%016" PRIX64 " %016" PRIX64 "\n", x, y);
     }
 }
 
