@@ -49,7 +49,8 @@ fn fold_alone(x: &[u64], results: &mut [u64], quotients: &mut [u8], y: u64, kind
     marked
 }
 
-// The same by a prepared divisor. One that is not normal is prepared for nothing: no place asks for it. The table starts with one power, 1, and grows as far as the elements want.
+// The same by a prepared divisor. One that is not normal is prepared for nothing: no place asks for it. The table starts with one power, 1,
+// and grows as far as the elements want.
 fn fold_prepared(x: &[u64], results: &mut [u64], quotients: &mut [u8], y: u64, kind: Kind) -> usize
     requires { ⌜ (first (dividingList (classOf binary64 y)) ≡ 0) × (length (now results) ≡ length (now x)) × (length (now quotients) ≡ length (now x)) ⌝ }
     ensures { λ r. ⌜ Filled kind y (now (x .entry)) (now (results .exit)) (now (quotients .exit)) r ⌝ }
