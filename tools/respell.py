@@ -47,13 +47,15 @@ def main(words):
     for path in texts(root):
         with open(path, encoding="utf-8") as f:
             files[path] = f.read()
-    declared, items = set(), set()
+    declared, items, fields = set(), set(), set()
     for path, text in files.items():
         if path.endswith(".antt"):
             for line in text.splitlines():
                 m = DECLARED.match(line)
                 if m and (is_lemma_file(path) or CAMEL.match(m[1])):
                     declared.add(m[1])
+                    if line[0] == " ":
+                        fields.add(m[1])
         if path.endswith(".rt"):
             items.update(ITEM.findall(text))
     tokens = {path: set(WORD.findall(text)) for path, text in files.items() if path.endswith((".antt", ".rt", ".edit"))}
@@ -84,8 +86,9 @@ def main(words):
             if name not in table:
                 return name
             if "-" in name:
-                # a name of Rattle's own may be spelled alike behind a dot
-                if not dashes or m.start() and text[m.start() - 1] == ".":
+                # behind a dot a name of Rattle's own may be spelled alike, but for a record's field
+                behind = m.start() and text[m.start() - 1] == "."
+                if not dashes or behind and not is_lemma_file(path) and name not in fields:
                     return name
                 if path.endswith(".md") and text[m.start() - 1: m.start()] != "`":
                     return name

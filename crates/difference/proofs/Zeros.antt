@@ -29,7 +29,7 @@ module _ (f : Format) (ok : Sound f) where
   pub zero_zero : (s t : Bool) → Zero (cond (beq s t) false s) ≡ operand_of f.smallest (difference_value f (of s 0) (of t 0))
   zero_zero s t =
       let d = of (cond (beq s t) false s) 0 in
-      sym (zero_operand_lem f.smallest d refl) ∙ kept (of s 0) (of t 0) d (law.zero-zero s t) (zero_held f)
+      sym (zero_operand_lem f.smallest d refl) ∙ kept (of s 0) (of t 0) d (law.zero_zero s t) (zero_held f)
 
   module _ (u : Unpacked) (stands : StandsValue f (Finite u)) where
     abbrev v : Value
@@ -42,7 +42,7 @@ module _ (f : Format) (ok : Sound f) where
     unfolding class_in
     zero_less s =
         sym (opposite_operand f ok u stands)
-        ∙ kept (of s 0) v (value_in f.smallest (opposite_of u)) (law.zero-less s u.negative v.count some) stands.held
+        ∙ kept (of s 0) v (value_in f.smallest (opposite_of u)) (law.zero_less s u.negative v.count some) stands.held
 
     pub less_zero : (t : Bool) → Finite u ≡ operand_of f.smallest (difference_value f v (of t 0))
     unfolding class_in

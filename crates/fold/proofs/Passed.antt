@@ -46,8 +46,8 @@ module _ (κ : Kind) (y : ℕ) (xs results₀ quotients₀ : List ℕ) where
             bytes = rw (add-one i, is, p.bytes) (front_more (byte_at κ y) xs quotients₀ i h eq);
             count = count;
             few = few;
-            as_many_results = simp length-set p.as-many-results;
-            as_many_quotients = simp length-set p.as-many-quotients;
+            as_many_results = simp length-set p.as_many_results;
+            as_many_quotients = simp length-set p.as_many_quotients;
           }
 
       byte_is : place.byte ≡ byte_at κ y (get_or xs i 0)

@@ -139,9 +139,9 @@ module _ (a b : List ℕ) (la : length a ≡ 16) where
 pub parts_well_formed : (line : List ℕ) → Parts line → well_formed line ≡ true
 parts_well_formed line p =
     rw p.joined
-    (joined_well_formed p.first p.second p.first-length p.second-length
-    (hex_each p.first (λ i h. p.first-hex i (rw p.first-length at h)))
-    (hex_each p.second (λ i h. p.second-hex i (rw p.second-length at h))))
+    (joined_well_formed p.first p.second p.first_length p.second_length
+    (hex_each p.first (λ i h. p.first_hex i (rw p.first_length at h)))
+    (hex_each p.second (λ i h. p.second_hex i (rw p.second_length at h))))
 
 -- [10.1] the operands are what the two parts stand for
 pub parts_line : (line : List ℕ) (p : Parts line)
@@ -149,7 +149,7 @@ pub parts_line : (line : List ℕ) (p : Parts line)
 unfolding line_for
 parts_line line p =
     rw (parts_well_formed line p)
-    (rw (p.joined, take_at p.first (32 ∷ p.second) 16 p.first-length, second_part p.first p.second p.first-length) refl)
+    (rw (p.joined, take_at p.first (32 ∷ p.second) 16 p.first_length, second_part p.first p.second p.first_length) refl)
 
 -- [10.3] any other line
 pub other_line : (line : List ℕ) → well_formed line ≡ false → line_for line ≡ bad_line

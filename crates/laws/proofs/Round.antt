@@ -165,8 +165,8 @@ apart {n} {d} {q} {m} some a b l =
     let i : q * d + d ≤ m * d = omega (arith, mul-le-mul_right d l) in
     let above = b.above in
     let below = a.below in
-    let e = b.even-above (omega arith) in
-    let f = a.even-below (omega arith) in
+    let e = b.even_above (omega arith) in
+    let f = a.even_below (omega arith) in
     let two : q + 2 ≤ m = omega arith in
     omega (arith, mul-le-mul_right d two)
 

@@ -33,8 +33,8 @@ accepts : (x y : Class) → is_unsupported x ≡ false → is_unsupported y ≡ 
 unfolding first
 accepts unsupported y ux uy d = clash (cc)
 accepts (nan n s) y ux uy d = rw uy
-accepts (infinite n) y ux uy d = rw (uy, d.not-nan)
-accepts (finite v) y ux uy d = rw (uy, d.not-nan, d.not-zero)
+accepts (infinite n) y ux uy d = rw (uy, d.not_nan)
+accepts (finite v) y ux uy d = rw (uy, d.not_nan, d.not_zero)
 
 -- no refusal's number is an answer's
 refusal : (w : Refusal) → accepted (refusal_number w) ≡ false

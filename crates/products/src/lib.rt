@@ -1,5 +1,7 @@
 // The product of two words, twice as long as a word: its upper half and its lower one. Each is found from the halves of its factors, and
 // compiled to one multiplication; both of one product share it.
+#![tactic(auto)]
+
 ghost use Rattle.std.specs.Prelude.{◌≡◌, ◌*◌, ◌/◌, ◌%◌, ◌^◌};
 
 pub fn high(a: u64, b: u64) -> u64

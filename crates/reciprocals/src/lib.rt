@@ -1,6 +1,8 @@
 // Division of two words by one without a division: by the divisor's reciprocal, which is found once. Two products guess the quotient, and
 // what the guess leaves tells how to mend it (Möller and Granlund, "Improved division by invariant integers", 2011).
 // Everywhere d is the divisor, with its leading one at bit 63. Only crates of this repository call these, with such a divisor and its reciprocal.
+#![tactic(auto)]
+
 ghost use Rattle.std.specs.Prelude.{◌≡◌, ℕ, ◌+◌, ◌-◌, ◌*◌, ◌^◌, ◌<◌, ◌≤◌};
 ghost use Rattle.reciprocals.specs.Reciprocal.{quotient_of, reciprocal_of, upper_of, Guess};
 

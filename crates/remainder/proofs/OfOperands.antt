@@ -60,4 +60,4 @@ module _ (f : Format) (ok : Sound f) where
       pub answered : (p : Pattern) (q : ℕ) → Writes f (joined p) q (finish κ (divisor_in f.smallest (divisor_operand y)) (value_operand f.smallest x))
           → remainder_meaning (Finished p q) ≡ remainder_of f κ (class_in f.smallest x) (class_in f.smallest y)
       unfolding remainder_meaning remainder_of
-      answered p q w = rw (none, ← divisor_is f ok y pair.divisor.not-zero) (λ i. record { number = 0; value = w.0 i; quotient = w.1 i })
+      answered p q w = rw (none, ← divisor_is f ok y pair.divisor.not_zero) (λ i. record { number = 0; value = w.0 i; quotient = w.1 i })

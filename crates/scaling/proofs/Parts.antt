@@ -68,4 +68,4 @@ module _ (f : Format) (ok : Sound f) (v : Value) (u : Unpacked) (p : Placed f v 
   pub parts_report : (e : ℤ) → e ≡ u.exponent
       → record { number = 0; significand = pattern_of f (class_in f.smallest (Finite (at_one u))); exponent = e } ≡ split_of f (finite v)
   unfolding split_of first
-  parts_report e is = rw (not_zero v.count p.some, own_parts, class_of_lem f ok (finite part) held, is, p.exponent-is)
+  parts_report e is = rw (not_zero v.count p.some, own_parts, class_of_lem f ok (finite part) held, is, p.exponent_is)

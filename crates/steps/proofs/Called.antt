@@ -99,7 +99,7 @@ module _ (x y : Operand) (sx : Stands x87 x) (sy : Stands x87 y) (n : ℕ) (none
 
     pub ran_call : (u : ℕ) → accepted u ≡ true → ran_report u t ≡ call_report u κ n budget (class_in x87.smallest x) (class_in x87.smallest y)
     ran_call u ok =
-        let z = divisor_is x87 sound80 y pair.divisor.not-zero in
+        let z = divisor_is x87 sound80 y pair.divisor.not_zero in
         accepted_call u κ n budget (class_in x87.smallest x) (class_in x87.smallest y) ok none t (rw z at ran)
         (rw z at (ran_held κ n x ready_call.0 (divisor_operand y) ready_call.1 budget))
 

@@ -60,7 +60,7 @@ returns-3 c =
     let e = v.before in
     let a = e.before.before.before.before.before.args in
     let z : v.judge.result ≡ 0 = omega arith in
-    filled a.kind a.y a.x.now a.results.now a.quotients.now (fit-results e) (fit-quotients e) v.judge.result v.judge.ensures z _ _ _ f.fold-places.ensures
+    filled a.kind a.y a.x.now a.results.now a.quotients.now (fit-results e) (fit-quotients e) v.judge.result v.judge.ensures z _ _ _ f.fold_places_lem.ensures
 
 pub fold64-spec : {M : Type 1} → statement M
 fold64-spec =

@@ -22,16 +22,16 @@ decreases-loop digits n₀ i₀ n i = 16 - i
 
 -- the byte that was read is a digit
 read : (c : tie.Else2 invariant-loop decreases-loop) → let x = get_or c.before.before.before.before.before.before.before.args.digits.now c.before.before.before.before.loop.i 0 in
-    (is_hex x ≡ true) × (c.before.digit-in.result ≡ digit_of x)
+    (is_hex x ≡ true) × (c.before.digit_in_lem.result ≡ digit_of x)
 read c =
     let x = get_or c.before.before.before.before.before.before.before.args.digits.now c.before.before.before.before.loop.i 0 in
-    let d = is_digit x (rw c.before.digit-in.ensures at c.if2.false) in
-    (d.0, c.before.digit-in.ensures ∙ d.1)
+    let d = is_digit x (rw c.before.digit_in_lem.ensures at c.if2.false) in
+    (d.0, c.before.digit_in_lem.ensures ∙ d.1)
 
-grown : (c : tie.Else2 invariant-loop decreases-loop) → c.before.before.before.before.loop.n * 16 + c.before.digit-in.result < 2 ^ 64
+grown : (c : tie.Else2 invariant-loop decreases-loop) → c.before.before.before.before.loop.n * 16 + c.before.digit_in_lem.result < 2 ^ 64
 grown c =
     let l = c.before.before.before.before.loop in
-    value_fits _ (suc l.i) (omega arith) (value_more l.n c.before.digit-in.result l.i l.invariant.1 (omega arith))
+    value_fits _ (suc l.i) (omega arith) (value_more l.n c.before.digit_in_lem.result l.i l.invariant.1 (omega arith))
 
 returns : tie.Need-returns invariant-loop decreases-loop
 unfolding field_of
@@ -53,7 +53,7 @@ returns-2 c =
     let s = c.before.before.before.before.before.before.before in
     let xs = s.args.digits.now in
     let h : l.i < length xs = omega arith in
-    let none = all_not xs l.i h (no_digit (get_or xs l.i 0) (rw c.before.digit-in.ensures at c.if2.true)) in
+    let none = all_not xs l.i h (no_digit (get_or xs l.i 0) (rw c.before.digit_in_lem.ensures at c.if2.true)) in
     simp (sym l.invariant.3 ∙ none, eq-eqb _ _ c.before.before.before.before.before.if1.false)
 
 mul-n : tie.Need-overflow-mul-n invariant-loop decreases-loop
@@ -80,7 +80,7 @@ loop-again c =
     let h : l.i < length xs = omega arith in
     let d = read c in (
       omega arith,
-      rw add-one (value_more l.n c.before.digit-in.result l.i l.invariant.1 (omega arith)),
+      rw add-one (value_more l.n c.before.digit_in_lem.result l.i l.invariant.1 (omega arith)),
       rw (add-one, d.1) (sym (read_more xs l.n l.i h) ∙ l.invariant.2),
       rw add-one (sym (all_more xs l.i h d.0) ∙ l.invariant.3),
     )

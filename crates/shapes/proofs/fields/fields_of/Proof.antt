@@ -43,7 +43,7 @@ returns c =
     let s = c.before.before.before.before.before.before in
     let f = format_of s.args.shape in
     let low = s.args.pattern.low in
-    c.fields-above.ensures
+    c.fields_above_lem.ensures
     ∙ ap (λ (h : ℕ). fields_above (top_field f) (low / h) (low % h)) c.before.before.before.leading-weight.ensures
     ∙ hidden_fields f s.requires.0 s.args.pattern s.requires.1 c.before.before.before.before.enum_told.given.1
 
