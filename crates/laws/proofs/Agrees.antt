@@ -93,6 +93,8 @@ written g (infinite s) v p u = rw (p, add-one (ones g), add-zero (ones g * hid g
 written g (finite x) (fin s m e) p u =
     let n : m * up e * 2 ^ low g / down e ≡ x.count = ap (λ (z : ℕ). z / down e) p.1 ∙ mul-div_cancel x.count (down_pos e) in
     rw (n, p.0, add-one (ones g), add_assoc (cond x.negative (top g) 0) ((size x.count - prec g) * hid g) (x.count / 2 ^ (size x.count - prec g)))
+written g (finite x) Ieee.nan p u = elim p [ ]
+written g (finite x) (inf _) p u = elim p [ ]
 
 pub writes : (g : Ieee.Format) (X : Class) (v : Float) → Stands g X v → (is_nan X ≡ true → X ≡ house (ours g)) → pattern_of (ours g) X ≡ to_bits g v
 writes g unsupported v p one = absurd p
@@ -130,6 +132,10 @@ rem_stands g x y (fin s m e) (fin t (suc n) d) b hx hy p q =
     (mul_right_comm (suc n * up d) (down e) L ∙ ap (λ (z : ℕ). z * down e) q.1 ∙ mul_right_comm y.count (down d) (down e) ∙ mul_assoc y.count (down e) (down d)) in
     rw (eqb-suc-zero n, p.0, round_same g x.negative (m * up e * down d % (suc n * up d * down e)) c r L pc (pow_pos (low g)) u)
     (round_held g x.negative r (finish_held (ours g) Truncated y.count x b hy hx))
+rem_stands g x y Ieee.nan w b hx hy p q = elim p [ ]
+rem_stands g x y (inf _) w b hx hy p q = elim p [ ]
+rem_stands g x y (fin s m e) Ieee.nan b hx hy p q = elim q [ ]
+rem_stands g x y (fin s m e) (inf _) b hx hy p q = elim q [ ]
 
 pub rem_zero : (g : Ieee.Format) (x y : Value) (v w : Float) → y.count ≡ 0 → Stands g (finite x) v → Stands g (finite y) w → rem g v w ≡ Ieee.nan
 unfolding rem
@@ -137,6 +143,10 @@ rem_zero g x y (fin s m e) (fin t zero d) z p q = refl
 rem_zero g x y (fin s m e) (fin t (suc n) d) z p q =
     let l = mul-pos (mul-pos (zero-lt-suc n) (up_pos d)) (pow_pos (low g)) in
     clash (omega (arith, rw z at q.1))
+rem_zero g x y Ieee.nan w z p q = elim p [ ]
+rem_zero g x y (inf _) w z p q = elim p [ ]
+rem_zero g x y (fin s m e) Ieee.nan z p q = elim q [ ]
+rem_zero g x y (fin s m e) (inf _) z p q = elim q [ ]
 
 -- ---- by what the operands stand for
 
@@ -154,6 +164,8 @@ rem_nan g (finite x) unsupported v w p q n = absurd q
 rem_nan g (finite x) (nan m s) (fin t k e) w p q n = rw q
 rem_nan g (finite x) (infinite m) v w p q n = clash (cc)
 rem_nan g (finite x) (finite y) v w p q n = clash (cc)
+rem_nan g (finite x) (nan m s) Ieee.nan w p q n = elim p [ ]
+rem_nan g (finite x) (nan m s) (inf _) w p q n = elim p [ ]
 
 stands_nan : (g : Ieee.Format) (X : Class) (v : Float) → Stands g X v → is_nan X ≡ true → v ≡ Ieee.nan
 stands_nan g unsupported v p n = clash (cc)
@@ -199,6 +211,8 @@ class_agrees g (finite x) (finite y) v w hx hy p q n = go (eq-zero-or-pos y.coun
     go (inr b) =
         divided (ours g) x y b
         ∙ written g (finite (finish_by Truncated y.count x).value) (rem g v w) (rem_stands g x y v w b (hx x refl) (hy y refl) p q) refl
+class_agrees g (finite x) (infinite t) Ieee.nan w hx hy p q n = elim p [ ]
+class_agrees g (finite x) (infinite t) (inf _) w hx hy p q n = elim p [ ]
 
 -- the pattern that the remainder is written as is the one that the toolchain writes for its own, but for the NaN of a NaN
 pub agrees_bits : (g : Ieee.Format) (x y : ℕ) → is_nan (class_of (ours g) x) || is_nan (class_of (ours g) y) ≡ false

@@ -154,6 +154,10 @@ value_stands g x y (fin s m e) (fin t n d) p q =
     let c = mul-pos (down_pos e) (down_pos d) in
     let r = sum_is g (down e * down d) L c (pow_pos (low g)) s (not t) (a * down d) x.count (b * down e) y.count i j in
     rw (r, p.0, q.0, ← exact_is x.negative y.negative x.count y.count) (round_stands g z.negative z.count)
+value_stands g x y Ieee.nan w p q = elim p [ ]
+value_stands g x y (inf _) w p q = elim p [ ]
+value_stands g x y (fin s m e) Ieee.nan p q = elim q [ ]
+value_stands g x y (fin s m e) (inf _) p q = elim q [ ]
 
 infinities_stand : (g : Ieee.Format) (s t : Bool)
     → Stands g (cond (beq s t) (house (ours g)) (infinite s)) (cond (beq s (not t)) (inf s) Ieee.nan)
@@ -175,6 +179,12 @@ class_stands g (finite x) unsupported v w p q = absurd q
 class_stands g (finite x) (nan n k) (fin s m e) w p q = rw q
 class_stands g (finite x) (infinite t) (fin s m e) w p q = rw q
 class_stands g (finite x) (finite y) v w p q = value_stands g x y v w p q
+class_stands g (infinite s) (finite y) v Ieee.nan p q = elim q [ ]
+class_stands g (infinite s) (finite y) v (inf _) p q = elim q [ ]
+class_stands g (finite x) (nan n k) Ieee.nan w p q = elim p [ ]
+class_stands g (finite x) (nan n k) (inf _) w p q = elim p [ ]
+class_stands g (finite x) (infinite t) Ieee.nan w p q = elim p [ ]
+class_stands g (finite x) (infinite t) (inf _) w p q = elim p [ ]
 
 -- the pattern that the difference is written as is the one that the toolchain writes for its own, a NaN and a zero's sign too
 pub difference_ieee : (g : Ieee.Format) (x y : ℕ) → difference (ours g) x y ≡ to_bits g (sub g (of_bits g x) (of_bits g y))
