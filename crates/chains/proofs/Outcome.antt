@@ -92,6 +92,7 @@ sound_finish κ m x = record { value = refl; whole = refl; room = most_pos x.cou
 
 -- a cut at any place from 1 up to 32 below the gap
 cut_even : (q j : ℕ) → 0 < j → q * 2 ^ j % 2 ≡ 0
+cut_even q Prim.Native.Nat.zero h = elim h [ ]
 cut_even q (suc j) h = rw (pow-suc 2 j, ← mul_assoc q (2 ^ j) 2) (mul-mod_left _ _)
 
 pub sound_cut : (κ : Kind) (m j : ℕ) (x : Value) → 0 < m → 64 ≤ excess x.count m → 0 < j → j + 32 ≤ excess x.count m → Sound κ m x (cut_at j m x)

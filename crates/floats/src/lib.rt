@@ -1,5 +1,7 @@
 // Between binary64 patterns and the language's floats. A float is moved, and asked whether it is a NaN; nothing is computed with it, so
 // that no rounding mode and no flushing of a host has a say. A NaN's own bits do not pass a float: it comes back as the house NaN.
+#![tactic(auto)]
+
 ghost use Rattle.std.specs.Prelude.{◌≡◌};
 ghost use Rattle.std.specs.Float.{binary64};
 ghost use Rattle.std.specs.Float.Ieee.{of_bits, to_bits};

@@ -1,6 +1,8 @@
 // The C border, for the crates of exports: numbers for the enums that the library answers with and asks for.
 // Every exported function is thin over a proved one and returns its number. What it writes it writes through what it is lent, and on a
 // refusal that stays as it was.
+#![tactic(auto)]
+
 ghost use Rattle.std.specs.Prelude.{◌≡◌};
 ghost use Rattle.definitions.specs.Block.{kind_of};
 ghost use Rattle.definitions.specs.Exports.{says_number};

@@ -1,5 +1,7 @@
 // Numbers of 2, 4 and 8 bytes at a place of a slice, the lowest byte first. Only crates of this repository call these, at places that
 // the slice has.
+#![tactic(auto)]
+
 ghost use Rattle.std.specs.Prelude.{◌≡◌, ◌+◌, ◌≤◌, length};
 ghost use Rattle.definitions.specs.Bytes.{loaded};
 ghost use Rattle.little_endian.specs.Stored.{stored};

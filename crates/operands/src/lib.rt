@@ -1,4 +1,6 @@
 // What a pattern stands for, as every other crate works on it.
+#![tactic(auto)]
+
 ghost use Rattle.std.specs.Prelude.{◌≡◌, ◌+◌, ◌<◌, ◌^◌, T, pos, ◌+ℤ◌};
 ghost use Rattle.std.specs.Int.Signed.{mag, le_z};
 ghost use Rattle.operands.specs.Operand.{normal_of, place_in, divisor_operand};

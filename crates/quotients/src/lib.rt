@@ -1,4 +1,6 @@
 // What an answer tells of a quotient: its low bits, and a sign.
+#![tactic(auto)]
+
 ghost use Rattle.std.specs.Prelude.{◌≡◌, ◌*◌, ◌%◌, ◌^◌, ◌<◌};
 ghost use Rattle.definitions.specs.Class.{signed};
 ghost use Rattle.definitions.specs.Remainder.{quotient_modulus, quotient_bits, shown};

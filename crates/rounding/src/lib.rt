@@ -1,4 +1,6 @@
 // A word rounded by a number of binary places, ties to even.
+#![tactic(auto)]
+
 ghost use Rattle.std.specs.Prelude.{◌≡◌, ◌+◌, ◌<◌, ◌^◌};
 ghost use Rattle.rounding.specs.Round.{round_of, rounded_of};
 

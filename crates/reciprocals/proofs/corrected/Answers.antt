@@ -1,11 +1,25 @@
-use Rattle.std.proofs.Common.{rules, ◌≡◌, ℕ, ◌+◌, ◌-◌, ◌*◌, ◌^◌, ◌<◌, ◌≤◌, length, ◌/◌, ◌%◌, Bool, true, false, nat_eq, nat_lt, List, [], ◌∷◌, ◌++◌, slice_index_or, slice_set, bit_and, bit_or, Fits, w8, w32, w64, Bor, MutBor}
-use Rattle.reciprocals.specs.Reciprocal.{quotient_of, reciprocal_of, upper_of, Guess}
+-- `corrected` meets its contract: the two corrections, in each of the four ways.
+use Rattle.std.proofs.Common.{◌≡◌, ◌+◌, ◌%◌, ◌^◌, ◌∙◌, ⊎_elim, arith, rules}
+use Rattle.reciprocals.proofs.Quotients.{many_right, many_wrong, few_right, few_wrong}
+use Rattle.reciprocals.proofs.corrected.Goals.{else-fraction-rest, then-fraction-rest}
 use Rattle.reciprocals.proofs.corrected.Goals as goal
 
--- src/lib.rt:20:1
 pub returns-then-d-remainder : goal.returns-then-d-remainder
-returns-then-d-remainder c = ?
+returns-then-d-remainder c n g =
+    let a = c.args in
+    let k = c.if-fraction-rest in
+    let t = c.if-d-remainder.true in
+    elim k.branch [ then-fraction-rest w ↦ let e : k.remainder ≡ (a.rest + a.d) % 2 ^ 64 = w.remainder-is ∙ w.wrapping_add_u64-remainder.ensures.value in
+    rw (c.wrapping_add_u64-quotient-then-d-remainder.ensures.value, w.quotient-is, e) (many_wrong (2 ^ 64) n a.d a.whole a.fraction a.rest g w.if-fraction-rest.true (omega arith))
+    | else-fraction-rest w ↦ let f : k.quotient ≡ (a.whole + 1) % 2 ^ 64 = w.quotient-is ∙ c.wrapping_add_u64-quotient.ensures.value in
+    rw (c.wrapping_add_u64-quotient-then-d-remainder.ensures.value, f, w.remainder-is) (few_wrong (2 ^ 64) n a.d a.whole a.fraction a.rest g (omega arith) w.if-fraction-rest.false (omega arith)) ]
 
--- src/lib.rt:20:1
 pub returns-else-d-remainder : goal.returns-else-d-remainder
-returns-else-d-remainder c = ?
+returns-else-d-remainder c n g =
+    let a = c.args in
+    let k = c.if-fraction-rest in
+    let t = c.if-d-remainder.false in
+    elim k.branch [ then-fraction-rest w ↦ let e : k.remainder ≡ (a.rest + a.d) % 2 ^ 64 = w.remainder-is ∙ w.wrapping_add_u64-remainder.ensures.value in
+    rw (w.quotient-is, e) (many_right (2 ^ 64) n a.d a.whole a.fraction a.rest g w.if-fraction-rest.true (omega arith))
+    | else-fraction-rest w ↦ let f : k.quotient ≡ (a.whole + 1) % 2 ^ 64 = w.quotient-is ∙ c.wrapping_add_u64-quotient.ensures.value in
+    rw (f, w.remainder-is) (few_right (2 ^ 64) n a.d a.whole a.fraction a.rest g w.if-fraction-rest.false (omega arith)) ]
