@@ -1,4 +1,6 @@
 // The answer block of the step and the run, as it is lent to them. Only the exports call this, with a block of the right length.
+#![tactic(auto)]
+
 ghost use Rattle.std.specs.Prelude.{◌≡◌, true, ◌<◌, length};
 ghost use Rattle.definitions.specs.Format.{x87, patterns};
 ghost use Rattle.definitions.specs.Numbers.{accepted};

@@ -1,4 +1,6 @@
 // What the checks of the operations come to, its number, and the tests on an operand.
+#![tactic(auto)]
+
 pub mod list;
 pub mod pair;
 

@@ -1,3 +1,5 @@
 // The difference of two patterns, rounded once, ties to even.
+#![tactic(auto)]
+
 pub mod patterns;
 pub mod values;

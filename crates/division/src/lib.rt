@@ -4,6 +4,8 @@
 //     b ends in as many zeros as there are places     once     one division
 //     both end in eleven zeros, below 64 places       near     a reciprocal, two digits
 //     anything else                                   turns    a reciprocal, a first and a last turn, a power between them
+#![tactic(auto)]
+
 pub mod near;
 pub mod turns;
 

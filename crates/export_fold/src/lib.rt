@@ -1,4 +1,6 @@
 // The export of the fold of a list of binary64 patterns.
+#![tactic(auto)]
+
 ghost use Rattle.std.specs.Prelude.{◌≡◌};
 ghost use Rattle.definitions.specs.Fold.{fold_list};
 ghost use Rattle.definitions.specs.Block.{kind_of};

@@ -1,4 +1,6 @@
 // The exports of the remainder with the sign of its quotient, a function a format.
+#![tactic(auto)]
+
 ghost use Rattle.std.specs.Prelude.{◌≡◌};
 ghost use Rattle.definitions.specs.Format.{binary16, binary32, binary64, x87, words};
 ghost use Rattle.definitions.specs.Signed.{signed_remainder};

@@ -1,3 +1,5 @@
 // The exports of scaling and splitting.
+#![tactic(auto)]
+
 pub mod scale;
 pub mod split;

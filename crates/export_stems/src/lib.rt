@@ -1,4 +1,6 @@
 // The exports of stem files.
+#![tactic(auto)]
+
 ghost use Rattle.std.specs.Prelude.{◌≡◌};
 ghost use Rattle.definitions.specs.Numbers.{first};
 ghost use Rattle.definitions.specs.Exports.{after};

@@ -1,4 +1,6 @@
 // The exports of the step and the run, on numbers and a lent block of 20 bytes for the answer.
+#![tactic(auto)]
+
 ghost use Rattle.std.specs.Prelude.{◌≡◌};
 ghost use Rattle.definitions.specs.Format.{words};
 ghost use Rattle.definitions.specs.Reports.{step_report, run_report};

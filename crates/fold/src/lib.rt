@@ -1,5 +1,7 @@
 // Folding of a list of binary64 patterns by one divisor, into lists that the caller lends. A list that is long enough prepares its divisor
 // once, and its elements share the powers of two that they want. By a divisor that is not normal each element goes by a call of its own.
+#![tactic(auto)]
+
 ghost use Rattle.std.specs.Prelude.{◌≡◌, length};
 ghost use Rattle.definitions.specs.Format.{binary64, class_of};
 ghost use Rattle.definitions.specs.Numbers.{first};

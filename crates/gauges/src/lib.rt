@@ -1,4 +1,6 @@
 // Gauges as floats, and which of them a file can give.
+#![tactic(auto)]
+
 ghost use Rattle.std.specs.Prelude.{◌≡◌, not};
 ghost use Rattle.definitions.specs.Format.{binary64, class_of};
 ghost use Rattle.definitions.specs.Fold.{bad};

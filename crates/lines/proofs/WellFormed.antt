@@ -11,8 +11,8 @@ use Rattle.definitions.specs.declared.Kind.TheVariants.{Truncated}
 use Rattle.definitions.specs.Format.{binary64}
 use Rattle.definitions.specs.Remainder.{remainder}
 use Rattle.definitions.specs.Line.{all_hex, hex_value, well_formed, answer_line, bad_line, line_for}
-use Rattle.hex.specs.Field.{field_of}
-use Rattle.hex.specs.declared.Field.TheVariants.{Number, Bad}
+use Rattle.hexadecimal.specs.Field.{field_of}
+use Rattle.hexadecimal.specs.declared.Field.TheVariants.{Number, Bad}
 
 -- what a field says of 16 bytes
 bad_field : (l : List ℕ) → length l ≡ 16 → field_of l ≡ Bad → all_hex l ≡ false

@@ -1,4 +1,6 @@
 // One line of input answered by one line of output.
+#![tactic(auto)]
+
 mod output;
 
 ghost use Rattle.std.specs.Prelude.{◌≡◌};
@@ -6,7 +8,7 @@ ghost use Rattle.definitions.specs.Line.{line_for};
 ghost use Rattle.lines.specs.Output.{output_of};
 
 use definitions::Kind;
-use hex::{Field, read_field};
+use hexadecimal::{Field, read_field};
 pub use output::Output;
 use output::{bad_line, line_of_answer};
 use remainder::patterns::remainder64;

@@ -6,7 +6,7 @@ ghost use Rattle.lines.specs.Output.{output_of};
 
 use checks::number_of;
 use definitions::RemainderAnswer;
-use hex::upper_hex;
+use hexadecimal::upper_hex;
 use quotients::shown_bits;
 
 // A line of output without its newline: the first `len` bytes, then zeros.

@@ -1,4 +1,6 @@
 // Patterns taken apart and put together, for every format of one word of significand. All formats meet in `Operand`, so everything above
 // is written once.
+#![tactic(auto)]
+
 pub mod pack;
 pub mod unpack;

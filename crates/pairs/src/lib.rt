@@ -1,5 +1,7 @@
 // The remainder of two finite values that are not zero. Everything is done on magnitudes, and the sign is put on at the end.
 // Only crates of this repository call these, with operands as `unpack` makes them.
+#![tactic(auto)]
+
 ghost use Rattle.std.specs.Prelude.{◌≡◌, ◌^◌, ◌<◌, ℤ, ◌-ℤ◌};
 ghost use Rattle.std.specs.Int.Signed.{mag};
 ghost use Rattle.definitions.specs.Class.{Value};

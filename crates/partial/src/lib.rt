@@ -1,5 +1,7 @@
 // A step of a finite value by a finite divisor that is not zero. Only crates of this repository call these, with operands as `unpack`
 // makes them.
+#![tactic(auto)]
+
 ghost use Rattle.std.specs.Prelude.{◌≡◌, true, ◌-◌, ◌≤◌, pos, ◌-ℤ◌};
 ghost use Rattle.definitions.specs.Format.{x87};
 ghost use Rattle.definitions.specs.Steps.{cut_at, step_by, step};

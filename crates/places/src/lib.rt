@@ -1,4 +1,6 @@
 // One place of a folded list, by a divisor that is neither NaN nor zero. Only crates of this repository call these.
+#![tactic(auto)]
+
 ghost use Rattle.std.specs.Prelude.{◌≡◌, true, ◌-◌, ◌*◌, ◌^◌, ◌<◌};
 ghost use Rattle.definitions.specs.Format.{binary64, class_of};
 ghost use Rattle.definitions.specs.Numbers.{first};

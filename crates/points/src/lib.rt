@@ -1,4 +1,6 @@
 // Points as floats, and the fold of one: what is divided, then the remainder of patterns.
+#![tactic(auto)]
+
 ghost use Rattle.std.specs.Prelude.{◌≡◌, true, cond};
 ghost use Rattle.definitions.specs.Format.{binary64, class_of, house_nan};
 ghost use Rattle.definitions.specs.Remainder.{remainder};

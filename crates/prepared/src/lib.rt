@@ -1,6 +1,8 @@
 // Division of many dividends by one divisor, which is prepared once: its reciprocal, and the powers of two modulo it that far dividends
 // want. A near dividend then takes one digit, and any other one two, whatever its gap.
 // Significands have 53 digits, as all of binary64. Only crates of this repository call these.
+#![tactic(auto)]
+
 pub mod powers;
 
 ghost use Rattle.std.specs.Prelude.{◌≡◌, ℕ, ◌+◌, ◌*◌, ◌%◌, ◌^◌, ◌<◌, ◌≤◌};

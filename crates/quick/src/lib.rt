@@ -2,6 +2,8 @@
 // far below that the quotient is zero, the dividend is kept. The general way takes any pattern of any format apart and puts one together;
 // here the places are constants, and nothing has to be judged or normalised: it takes a third of the instructions.
 // Everything else goes the general way. Only crates of this repository call these.
+#![tactic(auto)]
+
 ghost use Rattle.std.specs.Prelude.{◌≡◌, ◌-◌, ◌*◌, ◌/◌, ◌%◌, ◌^◌, ◌<◌, ◌≤◌, true, nat_lt};
 ghost use Rattle.definitions.specs.Class.{finite};
 ghost use Rattle.definitions.specs.Format.{binary64, pattern_of};

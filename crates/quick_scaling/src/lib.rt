@@ -1,6 +1,8 @@
 // Scaling of a normal number to a normal one, and splitting of a normal number: another exponent field, beside the same sign and the same
 // stored significand. Nothing has to be normalised or rounded, and where the shape is known the places are constants.
 // Everything else goes the general way. Only crates of this repository call these, with the shape of a format.
+#![tactic(auto)]
+
 ghost use Rattle.std.specs.Prelude.{◌≡◌, true, ◌+◌, ◌*◌, ◌≤◌, ◌<◌, pos, ◌+ℤ◌};
 ghost use Rattle.definitions.specs.Format.{patterns, top_field, field_weight, with_sign};
 ghost use Rattle.definitions.specs.Facts.{told_denormal};

@@ -2,6 +2,8 @@
 // are quicker there than any reciprocal. In the common case the dividend's field is not below the divisor's; and where it lies so far below
 // that the quotient is zero, the dividend is kept. Written once, over a shape: where it is known the places are constants.
 // Everything else goes the general way. Only crates of this repository call these, with the shape of one of the two formats.
+#![tactic(auto)]
+
 ghost use Rattle.std.specs.Prelude.{◌≡◌, true, ◌-◌, ◌*◌, ◌^◌, ◌≤◌, ◌<◌};
 ghost use Rattle.definitions.specs.Class.{finite};
 ghost use Rattle.definitions.specs.Format.{patterns, top_field, sign_weight, pattern_of};

@@ -1,6 +1,8 @@
 // The remainder of two normal x87 numbers, without operands: a significand with its leading digit is a word as the engine divides it, and
 // nothing has to be judged or normalised. In the common case the dividend's field is not below the divisor's; and where it lies so far
 // below that the quotient is zero, the dividend is kept. Everything else goes the general way. Only crates of this repository call these.
+#![tactic(auto)]
+
 ghost use Rattle.std.specs.Prelude.{◌≡◌, true, ◌+◌, ◌-◌, ◌*◌, ◌^◌, ◌≤◌, ◌<◌, ltb};
 ghost use Rattle.definitions.specs.Class.{finite};
 ghost use Rattle.definitions.specs.Format.{x87, words, pattern_of};

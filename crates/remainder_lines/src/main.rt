@@ -1,6 +1,8 @@
 // Answers each line of standard input by a line of standard output. What is written for a buffer of
 // input, and what is kept of it, is proved in `stream`; what this file does is read, hand on and write. Tests cover that: its stored
 // input, and rust/compare/tests/lines.rs.
+#![tactic(auto)]
+
 ghost use Rattle.std.specs.Prelude.{◌≡◌, ◌≤◌, length, take};
 
 use libc::{STDIN_FILENO, STDOUT_FILENO};

@@ -1,4 +1,6 @@
 // The two round trips of stem files as programs. Nothing is known here of the reader and the writer but what they promise.
+#![tactic(auto)]
+
 ghost use Rattle.std.specs.Prelude.{◌≡◌, cond, ◌++◌, ◌/◌, eqb, length, drop};
 ghost use Rattle.definitions.specs.Stem.{point_length, gauge_of, stem, stem_points};
 ghost use Rattle.definitions.specs.StemWriter.{points_of, points_in, write_fields};

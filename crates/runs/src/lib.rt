@@ -1,5 +1,7 @@
 // A run of steps of one size with a budget, on operands that have been judged. Only crates of this repository call it, with operands as
 // `unpack` makes them.
+#![tactic(auto)]
+
 ghost use Rattle.std.specs.Prelude.{◌≡◌, true};
 ghost use Rattle.definitions.specs.Format.{x87};
 ghost use Rattle.definitions.specs.Steps.{run};

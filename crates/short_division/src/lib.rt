@@ -1,5 +1,7 @@
 // Whole-number division of a shifted significand of 24 digits at most, as those of binary16 and binary32: with its digits 40 places fit a
 // word, and the processor divides once for so many. Only crates of this repository call it.
+#![tactic(auto)]
+
 ghost use Rattle.std.specs.Prelude.{◌≡◌, ◌^◌, ◌≤◌, ◌<◌};
 ghost use Rattle.division.specs.Divided.{divided_of};
 

@@ -1,5 +1,7 @@
 // Stem files, written into lent room. Everything is judged before the first byte is written; points are patterns, so that every bit of
 // a NaN is kept.
+#![tactic(auto)]
+
 ghost use Rattle.std.specs.Prelude.{◌≡◌, ◌++◌, ◌+◌, ◌*◌, ◌≤◌, length};
 ghost use Rattle.std.proofs.lemmas.List.Edits.{sets};
 ghost use Rattle.definitions.specs.Numbers.{first};

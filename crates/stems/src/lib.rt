@@ -1,4 +1,6 @@
 // Stem files: judged, opened, and their points taken out one by one. The count is compared, and used for nothing else.
+#![tactic(auto)]
+
 ghost use Rattle.std.specs.Prelude.{◌≡◌, ◌≤◌, eqb, length};
 ghost use Rattle.definitions.specs.Numbers.{first};
 ghost use Rattle.definitions.specs.Bytes.{of_bytes};

@@ -1,5 +1,7 @@
 // A whole input answered piece by piece: a read may cut a line anywhere. Only the program over this crate calls these functions, with
 // buffers of its own that are long enough; what a buffer holds past the part that is stated is free.
+#![tactic(auto)]
+
 ghost use Rattle.std.specs.Prelude.{◌≡◌, ◌+◌, ◌-◌, ◌*◌, ◌≤◌, min, length, take, drop};
 ghost use Rattle.definitions.specs.Line.{last_written};
 ghost use Rattle.stream.specs.Stream.{kept_bytes, BeginsWith, Put, Passed, Turned};

@@ -9,7 +9,7 @@ use Rattle.definitions.specs.Format.{binary64}
 use Rattle.definitions.specs.Line.{answer_line}
 use Rattle.laws.proofs.Regular.{regular64}
 use Rattle.laws.proofs.Small.{remainder_small}
-use Rattle.hex.specs.Field.{field_of}
+use Rattle.hexadecimal.specs.Field.{field_of}
 use Rattle.lines.specs.Output.{output_of}
 use Rattle.lines.proofs.OneDigit.{number_digit}
 use Rattle.lines.proofs.Parts.{rest_whole}

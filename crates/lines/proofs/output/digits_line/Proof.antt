@@ -6,7 +6,7 @@ use native.Mathlib.Nat.{div-one}
 use native.Mathlib.Omega.{arith}
 use lib.ListN.{replicate}
 use Rattle.lines.specs.Output.{output_of}
-use Rattle.hex.proofs.HexDigits.{halfway, put_more, left_more}
+use Rattle.hexadecimal.proofs.HexDigits.{halfway, put_more, left_more}
 use Rattle.lines.proofs.output.digits_line.Statement.{statement}
 use Rattle.lines.proofs.output.digits_line.Tie as tie
 
