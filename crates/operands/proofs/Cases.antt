@@ -2,24 +2,20 @@
 use mathlib.Core.Path.{◌≡◌, refl}
 use mathlib.Core.Bool.{Bool}
 use Prim.Native.Nat.{ℕ}
-use mathlib.Core.List.{[], ◌∷◌}
-use denote.Enum.Declared.{tag_of}
-use types.Run.{OneOf, miss}
 use Rattle.operands.specs.declared.Operand.{Operand}
+use Rattle.operands.specs.declared.Unpacked.{Unpacked}
 use Rattle.operands.specs.declared.Divisor.{Divisor}
 use Rattle.operands.specs.declared.Divisor.TheVariants.{Unbounded, By}
-use Rattle.operands.specs.contracts.Operand.{the_type}
-use Rattle.operands.specs.contracts.Divisor as divisor
 use Rattle.operands.specs.declared.Operand.TheVariants.{Unsupported, Nan, Infinite, Zero, Finite}
 
 pub other_cases : (P : Operand → Type 0) → P Unsupported → ((n : Bool) (s : ℕ) → P (Nan n s)) → ((n : Bool) → P (Infinite n)) → ((n : Bool) → P (Zero n))
-    → (o : Operand) → OneOf (0 ∷ 1 ∷ 2 ∷ 3 ∷ []) (tag_of the_type o) → P o
+    → (o : Operand) → ((x : Unpacked) → o ≡ Finite x → ⊥) → P o
 other_cases P u q i z Unsupported k = u
 other_cases P u q i z (Nan n s) k = q n s
 other_cases P u q i z (Infinite n) k = i n
 other_cases P u q i z (Zero n) k = z n
-other_cases P u q i z (Finite v) k = absurd (miss (0 ∷ 1 ∷ 2 ∷ 3 ∷ []) 4 tt k)
+other_cases P u q i z (Finite v) k = absurd (k v refl)
 
-pub other_unbounded : (d : Divisor) → OneOf (0 ∷ []) (tag_of divisor.the_type d) → d ≡ Unbounded
+pub other_unbounded : (d : Divisor) → ((u : Unpacked) → d ≡ By u → ⊥) → d ≡ Unbounded
 other_unbounded Unbounded k = refl
-other_unbounded (By u) k = absurd (miss (0 ∷ []) 1 tt k)
+other_unbounded (By u) k = absurd (k u refl)

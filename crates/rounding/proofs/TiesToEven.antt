@@ -39,6 +39,7 @@ module _ (q r m : ℕ) where
       go false e = le-ltb m (r * 2 + q % 2) (omega (arith, ltb-false (m / 2) (r + q % 2) e))
 
 pow_even : (k : ℕ) → 0 < k → 2 ^ k % 2 ≡ 0
+pow_even Prim.Native.Nat.zero h = elim h [ ]
 pow_even (suc k) h = rw (pow-suc 2 k) (mul-mod_left (2 ^ k) 2)
 
 module _ (n k : ℕ) where

@@ -12,19 +12,6 @@ use Rattle.hexadecimal.specs.Field.{field_of}
 use Rattle.hexadecimal.proofs.HexDigits.{is_digit, no_digit, read_more, all_more, all_not, value_more, value_fits}
 use Rattle.hexadecimal.proofs.read_field.Goals as goal
 
--- the byte that was read is a digit
-read : (c : goal.Else-d-gt15 invariant-loop decreases-loop) → let x = get_or c.args.digits.now c.loop-i.i 0 in
-    (is_hex x ≡ true) × (c.digit_in_lem.result ≡ digit_of x)
-read c =
-    let x = get_or c.args.digits.now c.loop-i.i 0 in
-    let d = is_digit x (rw c.digit_in_lem.ensures at c.if-d-gt15.false) in
-    (d.0, c.digit_in_lem.ensures ∙ d.1)
-
-grown : (c : goal.Else-d-gt15 invariant-loop decreases-loop) → c.loop-i.n * 16 + c.digit_in_lem.result < 2 ^ 64
-grown c =
-    let l = c.loop-i in
-    value_fits _ (suc l.i) (omega arith) (value_more l.n c.digit_in_lem.result l.i l.invariant.1 (omega arith))
-
 pub returns-then-digits-ne16 : goal.returns-then-digits-ne16
 unfolding field_of
 returns-then-digits-ne16 c = simp (ne_eqb _ _ c.if-digits-ne16.true)
@@ -38,25 +25,39 @@ returns-then-d-gt15 c =
     let l = c.loop-i in
     let xs = c.args.digits.now in
     let h : l.i < length xs = omega arith in
-    let none = all_not xs l.i h (no_digit (get_or xs l.i 0) (rw c.digit_in_lem.ensures at c.if-d-gt15.true)) in
+    let none = all_not xs l.i h (no_digit (get_or xs l.i 0) (rw c.digit_in-d.ensures at c.if-d-gt15.true)) in
     simp (sym l.invariant.3 ∙ none, eq-eqb _ _ c.if-digits-ne16.false)
 
 pub overflow_mul-n : goal.overflow_mul-n
 overflow_mul-n c =
+    let grown : c.loop-i.n * 16 + c.digit_in-d.result < 2 ^ 64 =
+        let l = c.loop-i in
+    value_fits _ (suc l.i) (omega arith) (value_more l.n c.digit_in-d.result l.i l.invariant.1 (omega arith))
+    in
     let l = c.loop-i in
-    omega (arith, grown c)
+    omega (arith, grown)
 
 pub overflow_add-n : goal.overflow_add-n
-overflow_add-n c = record { fits = grown c }
+overflow_add-n c =
+    let grown : c.loop-i.n * 16 + c.digit_in-d.result < 2 ^ 64 =
+        let l = c.loop-i in
+    value_fits _ (suc l.i) (omega arith) (value_more l.n c.digit_in-d.result l.i l.invariant.1 (omega arith))
+    in
+    record { fits = grown }
 
 pub loop-i-preserved : goal.loop-i-preserved
 loop-i-preserved c =
+    let read : let x = get_or c.args.digits.now c.loop-i.i 0 in (is_hex x ≡ true) × (c.digit_in-d.result ≡ digit_of x) =
+        let x = get_or c.args.digits.now c.loop-i.i 0 in
+    let d = is_digit x (rw c.digit_in-d.ensures at c.if-d-gt15.false) in
+    (d.0, c.digit_in-d.ensures ∙ d.1)
+    in
     let l = c.loop-i in
     let xs = c.args.digits.now in
     let h : l.i < length xs = omega arith in
-    let d = read c in (
+    let d = read in (
       omega arith,
-      rw add-one (value_more l.n c.digit_in_lem.result l.i l.invariant.1 (omega arith)),
+      rw add-one (value_more l.n c.digit_in-d.result l.i l.invariant.1 (omega arith)),
       rw (add-one, d.1) (sym (read_more xs l.n l.i h) ∙ l.invariant.2),
       rw add-one (sym (all_more xs l.i h d.0) ∙ l.invariant.3),
     )

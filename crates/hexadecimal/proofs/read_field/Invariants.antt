@@ -1,3 +1,4 @@
+-- `read_field` meets its contract. The invariant: the digits read so far stand for n, and those left decide the rest.
 use mathlib.Core.Path.{◌≡◌, refl, sym, ap, ◌∙◌}
 use mathlib.Core.Bool.{true}
 use mathlib.Core.List.{[]}
@@ -11,12 +12,11 @@ use Rattle.hexadecimal.specs.Field.{field_of}
 use Rattle.hexadecimal.proofs.HexDigits.{is_digit, no_digit, read_more, all_more, all_not, value_more, value_fits}
 use Rattle.hexadecimal.proofs.read_field.Given as goal
 
--- LOOPS [[["loop", "loop-i"], ["digits", "n", "i"]]]
--- `read_field` meets its contract. The invariant: the digits read so far stand for n, and those left decide the rest. Assumes nothing.
-abbrev invariant-loop : tie.invariant-loop
-invariant-loop digits n₀ i₀ n i =
-    (i ≤ 16) × (n < 16 ^ i) × (hex_value n (drop i digits) ≡ hex_value 0 digits) × (all_hex (drop i digits) ≡ all_hex digits)
+abbrev pub invariant-loop-i : goal.invariant-loop-i
+invariant-loop-i l =
+    (l.i ≤ 16) × (l.n < 16 ^ l.i) × (hex_value l.n (drop l.i l.digits) ≡ hex_value 0 l.digits) × (all_hex (drop l.i l.digits) ≡ all_hex l.digits)
 
-abbrev decreases-loop : tie.decreases-loop
-decreases-loop digits n₀ i₀ n i = 16 - i
+abbrev pub decreases-loop-i : goal.decreases-loop-i
+decreases-loop-i l =
+    16 - l.i
 

@@ -8,7 +8,7 @@ use borrow.Author.Rules.{rules}
 use Rattle.operands.proofs.divisor_of.Goals as goal
 
 pub returns-in_default : goal.returns-in_default
-returns-in_default c = other_cases (λ (o : Operand). Unbounded ≡ divisor_operand o) refl (λ n s. refl) (λ n. refl) (λ n. refl) c.args.y c.in-Finite.keys2
+returns-in_default c = other_cases (λ (o : Operand). Unbounded ≡ divisor_operand o) refl (λ n s. refl) (λ n. refl) (λ n. refl) c.args.y c.in_default.not-Finite
 
 pub returns : goal.returns
 returns c = rw c.in-Finite.is

@@ -1,5 +1,4 @@
 -- `round_places` meets its contract: no place leaves n, at 64 places and more all of n is left over, and between them one division tells.
---
 use mathlib.Core.Path.{◌≡◌, sym, ap, ◌∙◌}
 use mathlib.Core.Logic.{⊎_elim}
 use mathlib.Core.Bool.{false}
@@ -26,26 +25,24 @@ returns-then-places-ge64 c =
         let a = c.args in
     let p = 2 ^ a.places in
     elim c.if-places-eq64.branch [ then-places-eq64 w ↦ w.rounded-is ∙ ap (λ (h : ℕ). ltb h a.n) (rw w.if-places-eq64.true (omega arith))
-    | else-places-eq64 w ↦ w.rounded-is ∙ ne_eqb a.places 64 w.if-places-eq64.false ∙ sym (le-ltb (p / 2) a.n (let m = pow_mono {i = 65} {c = a.places} (omega arith) in omega arith)) ]
+    | else-places-eq64 w ↦ w.rounded-is ∙ ne_eqb a.places 64 w.if-places-eq64.false ∙ sym (le-ltb (p / 2) a.n (let m = pow_mono {i = 65} {j = a.places} (omega arith) in omega arith)) ]
     in
     let a = c.args in
     let p = pow_mono {i = 64} {j = a.places} (omega arith) in
-    c.rounded-then-places-ge64.ensures ∙ ap (rounded_of 0 a.n) (past_half) ∙ sym (round_whole a.n a.places (omega arith) (omega arith))
-
--- below 64 places the power fits the machine, and so does what it leaves over, and one more
-module _ (c : goal.Else-places-ge64) where
-  power : 1 * 2 ^ c.args.places % 2 ^ 64 ≡ 2 ^ c.args.places
-  power = rw one-mul (mod-eq_of_lt (pow-lt {j = 64} (omega arith)))
-
-  left_over : c.args.n % 2 ^ c.args.places < 2 ^ 63
-  left_over = lt_of_lt_of_le (mod-lt c.args.n (pow_pos _)) (pow_mono {j = 63} (omega arith))
+    c.rounded-then-places-ge64.ensures ∙ ap (rounded_of 0 a.n) past_half ∙ sym (round_whole a.n a.places (omega arith) (omega arith))
 
 -- the number compared with the half is found by its value: its terms may be exchanged, or shifted forth and back
 pub returns : goal.returns
 returns c =
+    let power : 1 * 2 ^ c.args.places % 2 ^ 64 ≡ 2 ^ c.args.places =
+        rw one-mul (mod-eq_of_lt (pow-lt {j = 64} (omega arith)))
+    in
+    let left_over : c.args.n % 2 ^ c.args.places < 2 ^ 63 =
+        lt_of_lt_of_le (mod-lt c.args.n (pow_pos _)) (pow_mono {j = 63} (omega arith))
+    in
     let a = c.args in
     let p = 2 ^ a.places in
     c.rounded-2.ensures
-    ∙ rw (power c)
-    (ap (λ (t : ℕ). rounded_of (a.n / p) (a.n % p) (ltb (p / 2) t)) (omega (arith, left_over c))
+    ∙ rw power
+    (ap (λ (t : ℕ). rounded_of (a.n / p) (a.n % p) (ltb (p / 2) t)) (omega (arith, left_over))
     ∙ sym (round_half a.n a.places (omega arith)))
