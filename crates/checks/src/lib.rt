@@ -12,7 +12,7 @@ use definitions::Refusal;
 use operands::Operand;
 
 // What the checks come to.
-#[derive(Drop)]
+#[derive(Clone, Copy)]
 pub enum Verdict {
     Accepted,
     Refused(Refusal),

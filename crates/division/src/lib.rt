@@ -16,14 +16,14 @@ ghost use Rattle.division.specs.Divisions.{near_of, divisions_of};
 use crate::near::divide_near;
 use crate::turns::divide_turns;
 
-#[derive(Drop)]
+#[derive(Clone, Copy)]
 pub struct Divided {
     pub remainder: u64,
     pub quotient: u32,
 }
 
 // The same with the divisions by b. The making of its reciprocal is one.
-#[derive(Drop)]
+#[derive(Clone, Copy)]
 pub struct Counted {
     pub divided: Divided,
     pub divisions: u32,

@@ -26,7 +26,7 @@ fn doubled(p: u64, b: u64) -> u64
     if lacks <= p { p - lacks } else { p + p }
 }
 
-#[derive(Drop)]
+#[derive(Clone, Copy)]
 pub struct Power {
     pub power: u64,
     pub divisions: u32,

@@ -17,7 +17,7 @@ use prepared::prepare;
 use quick::{field_of, spread};
 
 // The number of the whole list, and how many places have a NaN or infinite dividend.
-#[derive(Drop)]
+#[derive(Clone, Copy)]
 pub struct FoldAnswer {
     pub number: u8,
     pub marked: usize,

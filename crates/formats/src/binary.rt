@@ -10,7 +10,7 @@ use packing::unpack::unpack;
 use shapes::shape::Shape;
 
 // A value of binary16.
-#[derive(Drop)]
+#[derive(Clone, Copy)]
 pub struct Binary16 {
     pub operand: Operand,
 }
@@ -47,7 +47,7 @@ impl Binary16 {
 }
 
 // A value of binary32.
-#[derive(Drop)]
+#[derive(Clone, Copy)]
 pub struct Binary32 {
     pub operand: Operand,
 }
@@ -84,7 +84,7 @@ impl Binary32 {
 }
 
 // A value of binary64.
-#[derive(Drop)]
+#[derive(Clone, Copy)]
 pub struct Binary64 {
     pub operand: Operand,
 }

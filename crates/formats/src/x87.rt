@@ -10,7 +10,7 @@ use packing::unpack::unpack;
 use shapes::shape::Shape;
 
 // A value of the format.
-#[derive(Drop)]
+#[derive(Clone, Copy)]
 pub struct X87 {
     pub operand: Operand,
 }

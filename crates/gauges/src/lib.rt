@@ -13,7 +13,7 @@ use formats::binary::Binary64;
 use operands::Operand;
 
 // A turn with its period, or a roller with its period and its origin.
-#[derive(Drop)]
+#[derive(Clone, Copy)]
 pub enum Gauge {
     Turn { period: f64 },
     Roller { period: f64, origin: f64 },

@@ -6,7 +6,7 @@ ghost use Rattle.definitions.specs.Line.{is_hex, upper_hex};
 ghost use Rattle.hexadecimal.specs.Field.{digit_in, field_of};
 
 // What stands where a line is to have a number.
-#[derive(Drop)]
+#[derive(Clone, Copy)]
 pub enum Field {
     Number(u64),
     Bad,

@@ -10,7 +10,7 @@ use hexadecimal::upper_hex;
 use quotients::shown_bits;
 
 // A line of output without its newline: the first `len` bytes, then zeros.
-#[derive(Drop)]
+#[derive(Clone, Copy)]
 pub struct Output {
     pub bytes: [u8; 20],
     pub len: usize,

@@ -6,14 +6,14 @@ ghost use Rattle.std.specs.Int.Signed.{mag, le_z};
 ghost use Rattle.operands.specs.Operand.{normal_of, place_in, divisor_operand};
 
 // A finite value that is not zero: its significand with the leading one at bit 63, and the exponent of that one.
-#[derive(Drop)]
+#[derive(Clone, Copy)]
 pub struct Unpacked {
     pub negative: bool,
     pub significand: u64,
     pub exponent: i32,
 }
 
-#[derive(Drop)]
+#[derive(Clone, Copy)]
 pub enum Operand {
     Unsupported,
     // Its sign and its significand, as they are stored.
@@ -63,7 +63,7 @@ pub fn place_of(exponent: i32, smallest: i32) -> u32
 }
 
 // What an operand is divided by. An infinite divisor takes nothing off.
-#[derive(Drop)]
+#[derive(Clone, Copy)]
 pub enum Divisor {
     Unbounded,
     By(Unpacked),

@@ -14,7 +14,7 @@ use shapes::fields::{Fields, pattern_of};
 use shapes::shape::{Shape, hidden_part, leading_weight, top_field};
 
 // The leading digits of a value, as many as the precision, and how many lie below them.
-#[derive(Drop)]
+#[derive(Clone, Copy)]
 pub struct Trimmed {
     pub dropped: u32,
     pub significand: u64,

@@ -15,7 +15,7 @@ use division::{Divided, divide_counted};
 use operands::{Operand, Unpacked, normalise};
 
 // What is left of a dividend, and the low 32 bits of the quotient that was taken off.
-#[derive(Drop)]
+#[derive(Clone, Copy)]
 pub struct Left {
     pub value: Operand,
     pub quotient: u32,
@@ -92,7 +92,7 @@ fn settle_below(kind: Kind, x: Unpacked, y: Unpacked, d: i32) -> Left
 }
 
 // `Left`, with the divisions by the divisor's significand.
-#[derive(Drop)]
+#[derive(Clone, Copy)]
 pub struct LeftCounted {
     pub left: Left,
     pub divisions: u32,

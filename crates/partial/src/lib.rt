@@ -19,7 +19,7 @@ use pairs::{Left, finish_pair, gap, settle};
 use quotients::shifted;
 
 // What a step comes to: whether it finished, and what is left.
-#[derive(Drop)]
+#[derive(Clone, Copy)]
 pub struct Stepped {
     pub done: bool,
     pub left: Left,

@@ -17,7 +17,7 @@ use quotients::shown_bits;
 use remainder::patterns::remainder64;
 
 // What one place of the two lent lists gets.
-#[derive(Drop)]
+#[derive(Clone, Copy)]
 pub struct Place {
     pub value: u64,
     pub byte: u8,

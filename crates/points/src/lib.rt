@@ -18,14 +18,14 @@ use formats::binary::Binary64;
 use gauges::{BAD_GAUGE, Gauge, is_good};
 use remainder::patterns::remainder64;
 
-#[derive(Drop)]
+#[derive(Clone, Copy)]
 pub struct Point {
     pub reading: f64,
     pub radius: f64,
 }
 
 // A point that was folded, or that stays as it was under a gauge that is refused.
-#[derive(Drop)]
+#[derive(Clone, Copy)]
 pub struct FoldedPoint {
     pub number: u8,
     pub point: Point,

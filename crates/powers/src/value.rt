@@ -14,7 +14,7 @@ use rounding::round_places;
 use shapes::shape::Shape;
 
 // A scaled operand, and how it was rounded.
-#[derive(Drop)]
+#[derive(Clone, Copy)]
 pub struct ScaledOperand {
     pub operand: Operand,
     pub says: Rounding,

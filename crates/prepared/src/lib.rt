@@ -16,7 +16,7 @@ use reciprocals::{Quotient, reciprocal};
 use std::num::wrapping_add_u64;
 
 // A divisor's significand m, and 2^116 / m, cut; one less where m divides it.
-#[derive(Drop)]
+#[derive(Clone, Copy)]
 pub struct Prepared {
     pub significand: u64,
     pub reciprocal: u64,

@@ -22,7 +22,7 @@ use quotients::quotient_bits;
 use std::num::wrapping_add_u32;
 
 // A remainder of the common case: it is never refused.
-#[derive(Drop)]
+#[derive(Clone, Copy)]
 pub struct Quick {
     pub value: u64,
     pub quotient: u32,
@@ -30,7 +30,7 @@ pub struct Quick {
 }
 
 // A left-over with its sign, and its quotient's low 32 bits.
-#[derive(Drop)]
+#[derive(Clone, Copy)]
 pub struct Settled {
     pub negative: bool,
     pub rest: u64,

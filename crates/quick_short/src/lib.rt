@@ -18,7 +18,7 @@ use shapes::shape::{Shape, leading_weight, top_field};
 use short_division::divide_short;
 
 // A remainder of two normal numbers: it is never refused.
-#[derive(Drop)]
+#[derive(Clone, Copy)]
 pub struct Quick {
     pub value: u64,
     pub quotient: u32,

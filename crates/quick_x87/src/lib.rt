@@ -21,7 +21,7 @@ use quotients::{quotient_bits, shifted};
 use reciprocals::{divide_words, reciprocal};
 
 // A remainder of two normal numbers, or what a partial step leaves of one: it is never refused.
-#[derive(Drop)]
+#[derive(Clone, Copy)]
 pub struct Quick {
     pub value: Pattern,
     pub quotient: u32,

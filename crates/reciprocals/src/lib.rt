@@ -9,7 +9,7 @@ ghost use Rattle.reciprocals.specs.Reciprocal.{quotient_of, reciprocal_of, upper
 use products::{high, low};
 use std::num::{wrapping_add_u64, wrapping_sub_u64};
 
-#[derive(Drop)]
+#[derive(Clone, Copy)]
 pub struct Quotient {
     pub quotient: u64,
     pub remainder: u64,

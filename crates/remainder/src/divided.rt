@@ -22,14 +22,14 @@ use quotients::quotient_bits;
 use shapes::shape::Shape;
 
 // A remainder's pattern and its quotient bits.
-#[derive(Drop)]
+#[derive(Clone, Copy)]
 pub struct Residue {
     pub value: Pattern,
     pub quotient: u32,
 }
 
 // The same with the divisions by the divisor's significand.
-#[derive(Drop)]
+#[derive(Clone, Copy)]
 pub struct ResidueCounted {
     pub residue: Residue,
     pub divisions: u32,
@@ -73,7 +73,7 @@ pub fn divide_by_counted(shape: Shape, x: Operand, y: Divisor, kind: Kind) -> Re
 }
 
 // An answer, and the divisions by the divisor's significand.
-#[derive(Drop)]
+#[derive(Clone, Copy)]
 pub struct AnswerCounted {
     pub answer: RemainderAnswer,
     pub divisions: u32,

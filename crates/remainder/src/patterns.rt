@@ -92,7 +92,7 @@ pub fn remainder32(x: u32, y: u32, kind: Kind) -> RemainderTold
 }
 
 // What is told of a binary64 remainder, with the divisions by the divisor's significand.
-#[derive(Drop)]
+#[derive(Clone, Copy)]
 pub struct ToldCounted {
     pub told: RemainderTold,
     pub divisions: u32,

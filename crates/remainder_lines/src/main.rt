@@ -16,7 +16,7 @@ fn room() -> [u8; 589836]
 }
 
 // How many bytes of a line that has begun are kept at the buffer's front, and whether more may come.
-#[derive(Drop)]
+#[derive(Clone, Copy)]
 struct State {
     kept: usize,
     open: bool,

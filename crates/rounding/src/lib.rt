@@ -7,7 +7,7 @@ ghost use Rattle.rounding.specs.Round.{round_of, rounded_of};
 use definitions::Rounding;
 
 // The quotient is the one after rounding.
-#[derive(Drop)]
+#[derive(Clone, Copy)]
 pub struct RoundedWord {
     pub quotient: u64,
     pub says: Rounding,

@@ -15,7 +15,7 @@ use operands::{Divisor, Operand};
 use partial::step_value;
 
 // What a run comes to: whether it finished, what is left, the low 32 bits of the quotient, and how many steps it took.
-#[derive(Drop)]
+#[derive(Clone, Copy)]
 pub struct Ran {
     pub done: bool,
     pub value: Operand,

@@ -8,7 +8,7 @@ ghost use Rattle.shapes.specs.Shape.{format_of, Sound, fields_above, fields_in};
 use crate::shape::{Shape, leading_weight, top_field};
 use definitions::{Layout, Pattern};
 
-#[derive(Drop)]
+#[derive(Clone, Copy)]
 pub struct Fields {
     pub negative: bool,
     pub field: u64,

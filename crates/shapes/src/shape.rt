@@ -7,7 +7,7 @@ use definitions::Layout;
 use operands::power_of_two;
 
 // The precision, the bias, the exponent of the smallest place, and whether the leading digit stands in a pattern.
-#[derive(Drop)]
+#[derive(Clone, Copy)]
 pub struct Shape {
     pub precision: u32,
     pub bias: u32,

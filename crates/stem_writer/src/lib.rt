@@ -21,7 +21,7 @@ pub const UNEQUAL_LISTS: u8 = 9;
 pub const SHORT_ROOM: u8 = 16;
 
 // The number of a call, and how long the file is that it wrote.
-#[derive(Drop)]
+#[derive(Clone, Copy)]
 pub struct WriteAnswer {
     pub number: u8,
     pub written: usize,

@@ -35,28 +35,28 @@ pub const BAD_COUNT: u8 = 13;
 const BAD_LENGTH: u8 = 14;
 
 // What a file answers: its gauge, or the number of its refusal.
-#[derive(Drop)]
+#[derive(Clone, Copy)]
 pub enum StemAnswer {
     Opened(Gauge),
     Refused(u8),
 }
 
 // A point by its patterns: every bit of a NaN is there.
-#[derive(Drop)]
+#[derive(Clone, Copy)]
 pub struct PointPatterns {
     pub reading: u64,
     pub radius: u64,
 }
 
 // The patterns at a place of a file's points, if there is a point.
-#[derive(Drop)]
+#[derive(Clone, Copy)]
 pub enum PlacedPatterns {
     At(PointPatterns),
     Past,
 }
 
 // The same as floats, where all NaNs are one.
-#[derive(Drop)]
+#[derive(Clone, Copy)]
 pub enum PlacedPoint {
     At(Point),
     Past,

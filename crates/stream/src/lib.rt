@@ -26,7 +26,7 @@ fn answer_at(out: &mut [u8], at: usize, line: &[u8]) -> usize
 }
 
 // Where the last line of an input begins, and how many bytes were put into `out`.
-#[derive(Drop)]
+#[derive(Clone, Copy)]
 pub struct Pass {
     pub begin: usize,
     pub written: usize,
@@ -68,7 +68,7 @@ fn keep(buffer: &mut [u8], begin: usize, end: usize) -> usize
 }
 
 // How many bytes are to be written, and how many of a line that has begun are kept.
-#[derive(Drop)]
+#[derive(Clone, Copy)]
 pub struct Turn {
     pub written: usize,
     pub kept: usize,

@@ -5,7 +5,7 @@ ghost use Rattle.laws.specs.OddCut.{odd_cut};
 ghost use Rattle.sums.specs.Signed.{signed_of};
 
 // A word with a sign.
-#[derive(Drop)]
+#[derive(Clone, Copy)]
 pub struct SignedWord {
     pub negative: bool,
     pub word: u64,

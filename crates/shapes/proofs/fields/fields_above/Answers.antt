@@ -1,0 +1,15 @@
+-- `fields_above` meets its contract: what lies above the largest field has the sign.
+use mathlib.Core.Path.{◌≡◌, sym, ◌∙◌}
+use Prim.Native.Nat.{◌+◌, ◌-◌, ◌%◌}
+use native.Mathlib.Nat.{mod-eq-sub-mod, mod-eq_of_lt}
+use native.Mathlib.Omega.{arith}
+use borrow.Author.Tests.{lt-ltb, le-ltb}
+use Rattle.definitions.specs.Format.{top_field}
+use Rattle.shapes.specs.Shape.{format_of}
+use borrow.Author.Rules.{rules}
+use Rattle.shapes.proofs.fields.fields_above.Goals as goal
+
+pub returns-else-top-above : goal.returns-else-top-above
+returns-else-top-above c =
+    let top = top_field (format_of c.args.shape) in
+    rw (le-ltb top c.args.above (omega arith), mod-eq_of_lt {n = c.args.above} {m = top + 1} (omega arith))
