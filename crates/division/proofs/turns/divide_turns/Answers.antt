@@ -46,20 +46,19 @@ with_none p l h = omega arith
 
 pub returns : goal.returns
 returns c =
-    let w = c in
-    let a = w.args in
+    let a = c.args in
     let p = a.places in
-    let more : 64 ≤ p = omega (arith, w.if-places-lt64.false) in
-    let first = ap (λ (q : Quotient). q.remainder) (w.divide_words-first.ensures ∙ first_word a.a a.b p) in
-    let rest : w.if-places-ge128.rest ≡ a.a * 2 ^ (p - 64) % a.b =
-    elim w.if-places-ge128.branch [ then-places-ge128 w ↦ w.rest-is ∙ w.multiplied-rest.ensures ∙ rest_is a.a a.b (p % 64) (p - p % 64 - 64) w.power_of_two-between.result.power w.divide_words-first.result.remainder w.power_of_two-between.ensures.power.1 first
+    let more : 64 ≤ p = omega (arith, c.if-places-lt64.false) in
+    let first = ap (λ (q : Quotient). q.remainder) (c.divide_words-first.ensures ∙ first_word a.a a.b p) in
+    let rest : c.if-places-ge128.rest ≡ a.a * 2 ^ (p - 64) % a.b =
+    elim c.if-places-ge128.branch [ then-places-ge128 w ↦ w.rest-is ∙ w.multiplied-rest.ensures ∙ rest_is a.a a.b (p % 64) (p - p % 64 - 64) w.power_of_two-between.result.power c.divide_words-first.result.remainder w.power_of_two-between.ensures.power.1 first
     ∙ ap (λ (e : ℕ). a.a * 2 ^ e % a.b) (with-power p (omega (arith, w.if-places-ge128.true)))
     | else-places-ge128 w ↦ w.rest-is ∙ first ∙ ap (λ (e : ℕ). a.a * 2 ^ e % a.b) (with_none p more (omega (arith, w.if-places-ge128.false))) ]
     in
-    let divisions : w.if-places-ge128.divisions ≡ 1 + turns_of p =
-    elim w.if-places-ge128.branch [ then-places-ge128 w ↦ omega (arith, w.divisions-is, w.power_of_two-between.ensures.divisions, turns_far p (omega (arith, w.if-places-ge128.true)))
+    let divisions : c.if-places-ge128.divisions ≡ 1 + turns_of p =
+    elim c.if-places-ge128.branch [ then-places-ge128 w ↦ omega (arith, w.divisions-is, w.power_of_two-between.ensures.divisions, turns_far p (omega (arith, w.if-places-ge128.true)))
     | else-places-ge128 w ↦ omega (arith, w.divisions-is, turns_two p more (omega (arith, w.if-places-ge128.false))) ]
     in record {
-      divided = ap low_of w.divide_word-last.ensures ∙ last_word a.a a.b p w.if-places-ge128.rest (lt_of_lt_of_le (pow_pos 63) w.requires) more rest;
+      divided = ap low_of c.divide_word-last.ensures ∙ last_word a.a a.b p c.if-places-ge128.rest (lt_of_lt_of_le (pow_pos 63) c.requires) more rest;
       divisions = divisions;
     }

@@ -1,0 +1,8 @@
+-- `house_operand` meets its contract.
+use borrow.Author.Rules.{rules}
+use Rattle.operands.specs.Operand.{operand_of}
+use Rattle.packing.proofs.pack.house_operand.Goals as goal
+
+pub returns : goal.returns
+unfolding operand_of
+returns c = rw c.house_stored.ensures
