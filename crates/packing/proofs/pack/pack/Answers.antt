@@ -33,24 +33,20 @@ returns-in-Unsupported c = rw c.in-Unsupported.is c.house_nan.ensures
 pub returns-in-Nan : goal.returns-in-Nan
 unfolding pattern_of class_in
 returns-in-Nan c =
-    let told = c.operand-1.given in
-    rw told.1 (rw c.top_field.ensures at c.pattern_of.ensures)
+    rw c.in-Nan.is (rw c.top_field.ensures at c.pattern_of.ensures)
 
 pub returns-in-Infinite : goal.returns-in-Infinite
 unfolding pattern_of class_in
 returns-in-Infinite c =
-    let told = c.operand-in-Infinite-1.given in
-    rw told.1 (rw (c.infinity_stored.ensures, c.top_field-in-Infinite.ensures) at c.pattern_of-in-Infinite.ensures)
+    rw c.in-Infinite.is (rw (c.infinity_stored.ensures, c.top_field-in-Infinite.ensures) at c.pattern_of-in-Infinite.ensures)
 
 pub returns-in-Zero : goal.returns-in-Zero
 unfolding pattern_of class_in
 returns-in-Zero c =
-    let told = c.operand-in-Zero-1.given in
-    rw told.1 (c.pattern_of-in-Zero.ensures ∙ ap (with_sign (format_of c.args.shape) told.0.0) (omega (arith, magnitude_zero (format_of c.args.shape))))
+    rw c.in-Zero.is (c.pattern_of-in-Zero.ensures ∙ ap (with_sign (format_of c.args.shape) c.in-Zero.negative) (omega (arith, magnitude_zero (format_of c.args.shape))))
 
 pub returns-in-Finite : goal.returns-in-Finite
 unfolding pattern_of class_in
 returns-in-Finite c =
-    let told = c.operand-in-Finite-1.given in
     let w = c.value_fields.ensures in
-    rw told.1 (rw (w.0, w.3) at c.pattern_of-in-Finite.ensures)
+    rw c.in-Finite.is (rw (w.0, w.3) at c.pattern_of-in-Finite.ensures)

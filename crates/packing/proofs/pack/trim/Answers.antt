@@ -18,7 +18,7 @@ use Rattle.packing.proofs.pack.trim.Goals as goal
 pub place_of-place-requires : goal.place_of-place-requires
 place_of-place-requires c =
     let smallest_back : to_z w32 (of_z w32 c.args.shape.smallest) ≡ c.args.shape.smallest =
-        small_back c.args.shape.smallest (omega (arith, smallest_small (format_of c.args.shape) c.pre.0))
+        small_back c.args.shape.smallest (omega (arith, smallest_small (format_of c.args.shape) c.requires.0))
     in
     let fit : Ready c.args.value =
         ready (format_of c.args.shape) c.requires.0 c.args.value c.requires.1
@@ -35,7 +35,7 @@ returns c =
         ready (format_of c.args.shape) c.requires.0 c.args.value c.requires.1
     in
     let smallest_back : to_z w32 (of_z w32 c.args.shape.smallest) ≡ c.args.shape.smallest =
-        small_back c.args.shape.smallest (omega (arith, smallest_small (format_of c.args.shape) c.pre.0))
+        small_back c.args.shape.smallest (omega (arith, smallest_small (format_of c.args.shape) c.requires.0))
     in
     let exponent_back : to_z w32 (of_z w32 c.args.value.exponent) ≡ c.args.value.exponent =
         small_back c.args.value.exponent (omega (arith, fit.small))
@@ -43,11 +43,14 @@ returns c =
     let t = c.place_of-place.result in
     let a = c.args.value.significand in
     let precision = c.args.shape.precision in
-    let kept = c.if-place-shape.auto in
+    let kept = c.if-place-shape.kept in
     let came = c.if-place-shape.branch in
     let narrow = c.requires.0.narrow in
     let place : t ≡ place_in c.args.shape.smallest c.args.value.exponent = rw (exponent_back, smallest_back) at c.place_of-place.ensures in
-    let below : kept ≤ t = ⊎_elim (λ w. omega arith) (λ w. omega arith) came in
-    let word : kept ≤ 63 = ⊎_elim (λ w. omega arith) (λ w. omega arith) came in
-    let rest : t - kept ≡ suc t - precision = ⊎_elim (λ w. omega arith) (λ w. omega arith) came in
+    let below : kept ≤ t = elim c.if-place-shape.branch [ then-place-shape w ↦ omega arith
+    | else-place-shape w ↦ omega arith ] in
+    let word : kept ≤ 63 = elim c.if-place-shape.branch [ then-place-shape w ↦ omega arith
+    | else-place-shape w ↦ omega arith ] in
+    let rest : t - kept ≡ suc t - precision = elim c.if-place-shape.branch [ then-place-shape w ↦ omega arith
+    | else-place-shape w ↦ omega arith ] in
     trim_is a t fit.top fit.word precision kept below word rest ∙ ap (λ (i : ℕ). trimmed_of precision (a * 2 ^ i / 2 ^ 63)) place

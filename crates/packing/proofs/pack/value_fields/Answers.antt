@@ -9,24 +9,21 @@ use Rattle.shapes.specs.Shape.{format_of}
 use Rattle.packing.proofs.Packing.{low_written, high_written}
 use Rattle.packing.proofs.pack.value_fields.Goals as goal
 
--- the format holds the value's count
-held : (s : goal.Start) → Representable (format_of s.args.shape) (value_in s.args.shape.smallest s.args.value).count
-unfolding class_in
-held s = s.requires.1.held
-
 pub returns-then-kept-leading_weight : goal.returns-then-kept-leading_weight
+unfolding class_in
 returns-then-kept-leading_weight c =
     let h = c.args.shape in
     let t = c.trim-kept.ensures in
     let l = rw (t, c.leading_weight.ensures) at c.if-kept-leading_weight.true in
-    let w = low_written (format_of h) c.requires.0.regular (value_in h.smallest c.args.value).count (held c) l in
+    let w = low_written (format_of h) c.requires.0.regular (value_in h.smallest c.args.value).count c.requires.1.held l in
     rw t (refl, w.field, w.rest, w.is)
 
 -- the field is found, however the code writes it: what is refused is a wrong one
 pub returns-else-kept-leading_weight : goal.returns-else-kept-leading_weight
+unfolding class_in
 returns-else-kept-leading_weight c =
     let h = c.args.shape in
     let t = c.trim-kept.ensures in
     let l = rw (t, c.leading_weight.ensures) at c.if-kept-leading_weight.false in
-    let w = high_written (format_of h) c.requires.0.regular (value_in h.smallest c.args.value).count (held c) l in
+    let w = high_written (format_of h) c.requires.0.regular (value_in h.smallest c.args.value).count c.requires.1.held l in
     rw (t, c.hidden_part.ensures) (refl, omega (arith, w.field), w.rest, omega (arith, w.is))

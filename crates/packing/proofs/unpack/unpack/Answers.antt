@@ -18,11 +18,20 @@ use Rattle.packing.proofs.Reading.{field_le, stored_small, low, unnormal, infini
 use borrow.Author.Rules.{rules}
 use Rattle.packing.proofs.unpack.unpack.Goals as goal
 
+-- an exponent a little above a small one is read back as it was written
+exponent_back : (s e : ℤ) (k : ℕ) → mag s < 2 ^ 15 → e ≡ s +ℤ pos k → k < 2 ^ 16 → to_z w32 (of_z w32 e) ≡ e
+exponent_back s e k small is low = small_back e (let b : mag e < 2 ^ 17 = rw is (omega (arith, mag_add s (pos k))) in omega arith)
+
 pub returns-then-field-eq0 : goal.returns-then-field-eq0
 returns-then-field-eq0 c =
+    let back : to_z w32 (of_z w32 c.args.shape.smallest) ≡ c.args.shape.smallest =
+        small_back c.args.shape.smallest (omega (arith, smallest_small (format_of c.args.shape) c.requires.0))
+    in
+    let small = smallest_small (format_of c.args.shape) c.requires.0 in
     let r = c.fields_of-fields.result in
+    let exponent = c.exponent_at.ensures ∙ ap (λ (z : ℤ). z +ℤ pos 63) back in
     c.normalise.ensures
-    ∙ normal c c.exponent_at.result 63 c.exponent_at.ensures (omega arith) r.negative r.stored
+    ∙ ap (normal_of r.negative r.stored) (exponent_back c.args.shape.smallest _ 63 small exponent (omega arith) ∙ exponent)
     ∙ low (format_of c.args.shape) c.requires.0 (joined c.args.pattern) c.fields_of-fields.result c.fields_of-fields.ensures c.if-field-eq0.true
 
 pub returns-then-significand-leading : goal.returns-then-significand-leading
@@ -51,6 +60,10 @@ returns-then-field-top_field c =
 
 pub returns : goal.returns
 returns c =
+    let back : to_z w32 (of_z w32 c.args.shape.smallest) ≡ c.args.shape.smallest =
+        small_back c.args.shape.smallest (omega (arith, smallest_small (format_of c.args.shape) c.requires.0))
+    in
+    let small = smallest_small (format_of c.args.shape) c.requires.0 in
     let whole : c.hidden_part.result + c.fields_of-fields.result.stored ≡ hidden_part c.args.shape.layout (leading (format_of c.args.shape)) + c.fields_of-fields.result.stored =
         ap (λ (h : ℕ). h + c.fields_of-fields.result.stored) c.hidden_part.ensures
     in
@@ -59,7 +72,8 @@ returns c =
     omega (arith, top_le (format_of c.args.shape) c.requires.0)
     in
     let r = c.fields_of-fields.result in
+    let exponent = c.exponent_at-2.ensures ∙ ap (λ (z : ℤ). z +ℤ pos (r.field - 1 + 63)) back in
     c.normalise-2.ensures
-    ∙ normal c c.exponent_at-2.result (r.field - 1 + 63) c.exponent_at-2.ensures (omega (arith, field_small)) r.negative (c.hidden_part.result + r.stored)
+    ∙ ap (normal_of r.negative (c.hidden_part.result + r.stored)) (exponent_back c.args.shape.smallest _ (r.field - 1 + 63) small exponent (omega (arith, field_small)) ∙ exponent)
     ∙ high (format_of c.args.shape) c.requires.0 (joined c.args.pattern) c.fields_of-fields.result c.fields_of-fields.ensures _ whole c.if-field-eq0.false
     (omega arith) (λ q. c.if-field-top_field.false (q ∙ sym c.top_field.ensures))

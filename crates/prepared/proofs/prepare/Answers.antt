@@ -1,16 +1,9 @@
--- `prepare` meets its contract. Assumes nothing.
+-- `prepare` meets its contract.
 use Rattle.std.proofs.Common.{◌≡◌, ℕ, ◌+◌, ◌-◌, ◌*◌, ◌/◌, ◌%◌, ◌^◌, ◌<◌, ◌≤◌, refl, ap, ◌∙◌, arith, rules}
 use Rattle.reciprocals.specs.Reciprocal.{reciprocal_of}
 use Rattle.reciprocals.proofs.Quotients.{inverse, inverse_left}
 use Rattle.prepared.proofs.Halved.{halved_below, halved_above}
-use Rattle.prepared.proofs.prepare.Statement.{statement}
-use Rattle.prepared.proofs.prepare.Tie as tie
-
-reciprocal-requires : tie.Need-reciprocal-requires
-reciprocal-requires c κs = search rules
-
-add-t5 : tie.Need-overflow-add-t5
-add-t5 c = search rules
+use Rattle.prepared.proofs.prepare.Goals as goal
 
 -- b and its reciprocal v
 module _ (b v : ℕ) (top : 2 ^ 63 ≤ b) (word : b < 2 ^ 64) (spare : b % 2 ^ 11 ≡ 0) (is : v ≡ reciprocal_of b) where
@@ -35,21 +28,17 @@ module _ (b v : ℕ) (top : 2 ^ 63 ≤ b) (word : b < 2 ^ 64) (spare : b % 2 ^ 1
   above : 2 ^ 116 ≤ (2 ^ 63 + v / 2) * (b / 2 ^ 11) + b / 2 ^ 11
   above = rw half at (halved_above (2 ^ 64 * 2 ^ 64) (2 ^ 116) (2 ^ 64 + v) b (b / 2 ^ 11) _ sum left whole refl)
 
-returns : tie.Need-returns
+pub returns : goal.returns
 returns c =
-    let s = c.before in
-    let b = s.args.b in
+    let b = c.args.b in
     let v = c.reciprocal.result in
     let e = c.reciprocal.ensures in
-    let w = s.ranges.b.fits in (
+    let w = c.ranges.b.fits in (
       omega arith,
       record {
         top = omega arith;
         word = omega arith;
-        below = below b v s.requires.0 w s.requires.1 e;
-        above = above b v s.requires.0 w s.requires.1 e;
+        below = below b v c.requires.0 w c.requires.1 e;
+        above = above b v c.requires.0 w c.requires.1 e;
       },
     )
-
-pub prepare-spec : {M : Type 1} → statement M
-prepare-spec = tie.close (tie.spec reciprocal-requires add-t5 returns)
