@@ -1,0 +1,16 @@
+-- `divide_quick` meets its contract: it is the engine's first case, or the engine.
+use Rattle.std.proofs.Common.{lt_of_lt_of_le, pow_pos, rules}
+use Rattle.division.proofs.Zeros.{trailing_mod}
+use Rattle.division.proofs.Count.{counted_once}
+use Rattle.quick.proofs.divide_quick.Goals as goal
+
+-- `divide_quick` meets its contract: it is the engine's first case, or the engine. Assumes nothing.
+pub divide_once-requires : goal.divide_once-requires
+divide_once-requires c = (c.requires, trailing_mod c.args.b c.args.places c.if-places-b.true)
+
+pub returns-then-places-b : goal.returns-then-places-b
+returns-then-places-b c =
+    let a = c.args in record {
+      divided = c.divide_once.ensures;
+      divisions = counted_once a.a a.b a.places (lt_of_lt_of_le (pow_pos 63) c.requires) c.ranges.b.fits c.if-places-b.true;
+    }
