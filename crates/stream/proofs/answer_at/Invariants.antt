@@ -12,4 +12,3 @@ invariant-loop-k l =
 abbrev pub decreases-loop-k : goal.decreases-loop-k
 decreases-loop-k l =
     20 - l.k
-

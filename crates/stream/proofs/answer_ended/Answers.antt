@@ -9,7 +9,7 @@ loop-i-preserved c =
     let l = c.loop-i in
     let xs = c.args.input.now in
     elim c.if-input-i-eq10.branch [
-      then-input-i-eq10 w ↦
+      | then-input-i-eq10 w ↦
           rw (w.out-is, w.begin-is, w.at-is) (
             line_ended xs l.i c.loop-i-test.true l.out _ l.begin l.at _ w.if-input-i-eq10.true l.invariant.0 w.answer_at-at.ensures,
             omega (arith, l.invariant.1, w.answer_at-at.auto.out),

@@ -19,7 +19,7 @@ returns c =
     let filled = c.args.filled in
     let begin = pass.result.begin in
     let long : length (drop begin (take filled buffer)) ≡ filled - begin =
-        length-drop begin (take filled buffer) ∙ ap (λ (n : ℕ). n - begin) (length-take-le filled buffer c.requires.0)
+    length-drop begin (take filled buffer) ∙ ap (λ (n : ℕ). n - begin) (length-take-le filled buffer c.requires.0)
     in
     record {
       answers = pass.ensures.answers;

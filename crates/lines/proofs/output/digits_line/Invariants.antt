@@ -14,4 +14,3 @@ invariant-loop-k l =
 abbrev pub decreases-loop-k : goal.decreases-loop-k
 decreases-loop-k l =
     l.k
-
