@@ -5,8 +5,18 @@
 
 ghost use Rattle.std.specs.Prelude.{◌≡◌, ◌≤◌, length, take};
 
-use libc::{STDIN_FILENO, STDOUT_FILENO};
+use arrayvec::ArrayString;
+use std::fmt::Write as _;
+use std::io;
+use std::io::{Read, Write};
 use stream::{answer_last, answer_lines};
+
+// Room for a buffer of input: a line that has begun, and what one read brings.
+fn input_room() -> [u8; 65536]
+    ensures { 65536 ≡ length result }
+{
+    [0; 65536]
+}
 
 // Room for the answers of a whole buffer of input: an empty line takes one byte there, and its answer nine.
 fn room() -> [u8; 589836]
@@ -22,11 +32,19 @@ struct State {
     open: bool,
 }
 
+// Says on standard error what has failed and why: the system's words, without the number that is shown after them.
+fn fail(rt: &HostRuntime, what: &str, error: io::Error) -> io::Result<()> {
+    let mut text = ArrayString::<256>::new();
+    write!(text, "{error}")?;
+    let end = text.find(" (os error ").unwrap_or(text.len());
+    eprintln!(rt; "{what}: {}", &text[..end])
+}
+
 // A call failed: nothing more is read or answered.
-fn stop(what: &[u8]) -> State
+fn stop(rt: &HostRuntime, what: &str, error: io::Error) -> State
     ensures { result.kept ≤ 34 }
 {
-    os::fail(what);
+    let _ = fail(rt, what, error);
     State {
         kept: 0,
         open: false,
@@ -34,22 +52,21 @@ fn stop(what: &[u8]) -> State
 }
 
 // Reads once, and writes the answers of all lines that have ended.
-fn turn(buffer: &mut [u8], out: &mut [u8], kept: usize) -> State
+fn turn(rt: &HostRuntime, buffer: &mut [u8], out: &mut [u8], kept: usize) -> State
     requires { (length buffer.old ≡ 65536) × (length out.old ≡ 589836) × (kept ≤ 34) }
     ensures { result.kept ≤ 34 }
 {
-    let got = libc::read(STDIN_FILENO, &mut buffer[kept..]);
-    if got < 0 {
-        return stop(b"standard input");
-    }
+    let got = match rt.stdin().read(&mut buffer[kept..]) {
+        Ok(got) => got,
+        Err(error) => return stop(rt, "standard input", error),
+    };
     if got == 0 {
         return State { kept, open: false };
     }
-    let filled = kept + io::count(got, &buffer[kept..]);
-    let answers = answer_lines(buffer, filled, out);
+    let answers = answer_lines(buffer, kept + got, out);
     let n = answers.written;
-    if !io::write_all(STDOUT_FILENO, &out[..n]) {
-        return stop(b"standard output");
+    if let Err(error) = rt.stdout().write_all(&out[..n]) {
+        return stop(rt, "standard output", error);
     }
     State {
         kept: answers.kept,
@@ -59,7 +76,7 @@ fn turn(buffer: &mut [u8], out: &mut [u8], kept: usize) -> State
 
 // Reads to the end, and says how many bytes are kept of a last line that has no newline. A proved loop has to end, and nothing says that
 // an input does: the loop counts its turns down, from a number that no run uses up.
-fn answer_input(buffer: &mut [u8], out: &mut [u8]) -> usize
+fn answer_input(rt: &HostRuntime, buffer: &mut [u8], out: &mut [u8]) -> usize
     requires { (length buffer.old ≡ 65536) × (length out.old ≡ 589836) }
     ensures { (result ≤ length buffer.new) × (result ≡ length (take result buffer.new)) }
 {
@@ -69,25 +86,25 @@ fn answer_input(buffer: &mut [u8], out: &mut [u8]) -> usize
     };
     let mut turns = u64::MAX;
     while 0 < turns && state.open {
-        state = turn(buffer, out, state.kept);
+        state = turn(rt, buffer, out, state.kept);
         turns -= 1;
     }
     state.kept
 }
 
 // Writes the answer of a last line that has no newline.
-fn answer_end(line: &[u8], out: &mut [u8])
+fn answer_end(rt: &HostRuntime, line: &[u8], out: &mut [u8])
     requires { length out.old ≡ 589836 }
 {
     let n = answer_last(line, out);
-    if !io::write_all(STDOUT_FILENO, &out[..n]) {
-        stop(b"standard output");
+    if let Err(error) = rt.stdout().write_all(&out[..n]) {
+        stop(rt, "standard output", error);
     }
 }
 
-fn main() {
-    let mut buffer = io::large_buffer();
+fn main(rt: HostRuntime) {
+    let mut buffer = input_room();
     let mut out = room();
-    let kept = answer_input(&mut buffer, &mut out);
-    answer_end(&buffer[..kept], &mut out);
+    let kept = answer_input(&rt, &mut buffer, &mut out);
+    answer_end(&rt, &buffer[..kept], &mut out);
 }
