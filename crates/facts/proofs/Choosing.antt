@@ -1,10 +1,7 @@
 -- The NaN of two operands stands for the NaN of their classes. Assumes nothing.
 use mathlib.Core.Path.{◌≡◌, refl, sym, ap, ◌∙◌, subst}
 use mathlib.Core.Bool.{Bool, true, false, cond}
-use mathlib.Core.List.{[], ◌∷◌}
 use Prim.Native.Nat.{ℕ}
-use denote.Enum.Declared.{tag_of}
-use types.Run.{OneOf, miss}
 use lib.Dec.{ltb}
 use lib.IntN.{ℤ}
 use Rattle.definitions.specs.Class.{Class, nan}
@@ -13,11 +10,9 @@ use Rattle.definitions.specs.Facts.{chosen, quieted, quiet_pattern, nan_of, refu
 use Rattle.definitions.specs.Answers.{refusal_number}
 use Rattle.definitions.specs.declared.Refusal.{Refusal}
 use Rattle.definitions.specs.declared.Refusal.TheVariants as why
-use Rattle.definitions.specs.contracts.Refusal as refusal
 use Rattle.operands.specs.declared.Operand.{Operand}
 use Rattle.operands.specs.declared.Operand.TheVariants.{Unsupported, Nan, Infinite, Zero, Finite}
 use Rattle.operands.specs.Operand.{operand_of, class_in}
-use Rattle.operands.specs.contracts.Operand.{the_type}
 use Rattle.shapes.specs.declared.shape.Shape.{Shape}
 use Rattle.shapes.specs.Shape.{format_of, shape_of, Sound}
 use Rattle.packing.specs.Stands.{Stands}
@@ -26,16 +21,16 @@ use Rattle.facts.specs.Chosen.{chosen_operand}
 
 -- ---- what the code has found not to be a NaN
 
-pub other_dividend : (x y : Operand) → OneOf (0 ∷ 2 ∷ 3 ∷ 4 ∷ []) (tag_of the_type x) → y ≡ chosen_operand x y
+pub other_dividend : (x y : Operand) → ((n : Bool) (s : ℕ) → x ≡ Nan n s → ⊥) → y ≡ chosen_operand x y
 other_dividend Unsupported y k = refl
-other_dividend (Nan m s) y k = absurd (miss (0 ∷ 2 ∷ 3 ∷ 4 ∷ []) 1 tt k)
+other_dividend (Nan m s) y k = absurd (k m s refl)
 other_dividend (Infinite n) y k = refl
 other_dividend (Zero n) y k = refl
 other_dividend (Finite u) y k = refl
 
-pub other_divisor : (m : Bool) (s : ℕ) (y : Operand) → OneOf (0 ∷ 2 ∷ 3 ∷ 4 ∷ []) (tag_of the_type y) → Nan m s ≡ chosen_operand (Nan m s) y
+pub other_divisor : (m : Bool) (s : ℕ) (y : Operand) → ((n : Bool) (s : ℕ) → y ≡ Nan n s → ⊥) → Nan m s ≡ chosen_operand (Nan m s) y
 other_divisor m s Unsupported k = refl
-other_divisor m s (Nan n t) k = absurd (miss (0 ∷ 2 ∷ 3 ∷ 4 ∷ []) 1 tt k)
+other_divisor m s (Nan n t) k = absurd (k n t refl)
 other_divisor m s (Infinite n) k = refl
 other_divisor m s (Zero n) k = refl
 other_divisor m s (Finite u) k = refl
@@ -97,13 +92,13 @@ module _ (f : Format) (x y o : Operand) (is : o ≡ chosen_operand x y) where
   unfolding nan_of class_in
   chosen_nan n s e = rw (← class_is, e)
 
-  pub chosen_none : OneOf (0 ∷ 2 ∷ 3 ∷ 4 ∷ []) (tag_of the_type o) → house_nan f ≡ nan_of f (class_in f.smallest x) (class_in f.smallest y)
+  pub chosen_none : ((n : Bool) (s : ℕ) → o ≡ Nan n s → ⊥) → house_nan f ≡ nan_of f (class_in f.smallest x) (class_in f.smallest y)
   unfolding nan_of class_in
   chosen_none k = rw (← class_is) (go o k)
     where
-      go : (p : Operand) → OneOf (0 ∷ 2 ∷ 3 ∷ 4 ∷ []) (tag_of the_type p) → house_nan f ≡ quiet_pattern f (class_in f.smallest p)
+      go : (p : Operand) → ((n : Bool) (s : ℕ) → p ≡ Nan n s → ⊥) → house_nan f ≡ quiet_pattern f (class_in f.smallest p)
       go Unsupported l = refl
-      go (Nan n s) l = absurd (miss (0 ∷ 2 ∷ 3 ∷ 4 ∷ []) 1 tt l)
+      go (Nan n s) l = absurd (l n s refl)
       go (Infinite n) l = refl
       go (Zero n) l = refl
       go (Finite u) l = refl
@@ -115,12 +110,12 @@ module _ (f : Format) (ok : Sound f) (h : Shape) (of : h ≡ shape_of f) (x y : 
   patterns_nan b e = (rw of at e) ∙ (λ i. nan_of f (class_pattern f ok x o ox i) (class_pattern f ok y p py i))
 
 -- what a refusal that is not 3 returns
-pub other_value : (f : Format) (x y : Class) (w : Refusal) → OneOf (0 ∷ 1 ∷ 2 ∷ 4 ∷ 5 ∷ 6 ∷ []) (tag_of refusal.the_type w) → house_nan f ≡ refused_value f (refusal_number w) x y
+pub other_value : (f : Format) (x y : Class) (w : Refusal) → (w ≡ why.Nan → ⊥) → house_nan f ≡ refused_value f (refusal_number w) x y
 unfolding refused_value
 other_value f x y why.BadLength k = refl
 other_value f x y why.BadSize k = refl
 other_value f x y why.Unsupported k = refl
-other_value f x y why.Nan k = absurd (miss (0 ∷ 1 ∷ 2 ∷ 4 ∷ 5 ∷ 6 ∷ []) 3 tt k)
+other_value f x y why.Nan k = absurd (k refl)
 other_value f x y why.Infinite k = refl
 other_value f x y why.ZeroDivisor k = refl
 other_value f x y why.ZeroSplit k = refl

@@ -4,8 +4,6 @@ use mathlib.Core.Bool.{Bool, true}
 use mathlib.Core.List.{[], ◌∷◌}
 use Prim.Native.Nat.{ℕ}
 use native.Mathlib.Omega.{arith}
-use denote.Enum.Declared.{tag_of}
-use types.Run.{OneOf}
 use Rattle.digits.proofs.Tests.{clash}
 use Rattle.definitions.specs.Class.{gap}
 use Rattle.definitions.specs.Format.{x87}
@@ -14,10 +12,10 @@ use Rattle.definitions.specs.Steps.{step}
 use Rattle.definitions.specs.declared.Kind.{Kind}
 use Rattle.operands.specs.Operand.{operand_of, class_in, value_in, value_operand, divisor_in}
 use Rattle.operands.specs.declared.Operand.{Operand}
-use Rattle.operands.specs.declared.Operand.TheVariants.{Zero}
+use Rattle.operands.specs.declared.Operand.TheVariants.{Zero, Finite}
 use Rattle.operands.specs.declared.Divisor.{Divisor}
+use Rattle.operands.specs.declared.Unpacked.{Unpacked}
 use Rattle.operands.specs.declared.Divisor.TheVariants.{Unbounded, By}
-use Rattle.operands.specs.contracts.Operand.{the_type}
 use Rattle.operands.proofs.Cases.{other_cases}
 use Rattle.packing.specs.Stands.{StandsValue, StandsDivisor}
 use Rattle.shapes.proofs.Sounds.{sound80}
@@ -44,7 +42,7 @@ module _ (κ : Kind) (k : ℕ) where
       sym (ap stepped_of (finish_far κ (value_in x87.smallest y).count (record { negative = n; count = 0 }) (unpacks x87 sound80 y s).some (omega arith)))
 
   -- a value that the code has found not to be finite and nonzero is a zero
-  pub step_other : (d : Divisor) → StandsDivisor x87 d → (o : Operand) → OneOf (0 ∷ 1 ∷ 2 ∷ 3 ∷ []) (tag_of the_type o) → StandsValue x87 o
+  pub step_other : (d : Divisor) → StandsDivisor x87 d → (o : Operand) → ((u : Unpacked) → o ≡ Finite u → ⊥) → StandsValue x87 o
       → kept_of o ≡ stepped_of (step κ k (divisor_in x87.smallest d) (value_operand x87.smallest o))
   unfolding class_in operand_of
   step_other d s =

@@ -3,8 +3,6 @@ use mathlib.Core.Path.{◌≡◌, refl, ap, ◌∙◌}
 use Prim.Native.Nat.{ℕ}
 use native.Mathlib.Omega.{arith}
 use mathlib.Core.List.{[], ◌∷◌}
-use denote.Enum.Declared.{tag_of}
-use types.Run.{OneOf}
 use lib.IntN.{ℤ}
 use Rattle.definitions.specs.Class.{Value, finite}
 use Rattle.definitions.specs.Format.{Format, Representable, pattern_of}
@@ -18,7 +16,6 @@ use Rattle.operands.specs.declared.Unpacked.{Unpacked}
 use Rattle.operands.specs.declared.Divisor.{Divisor}
 use Rattle.operands.specs.declared.Divisor.TheVariants.{Unbounded, By}
 use Rattle.operands.specs.Operand.{class_in, value_in, value_operand, divisor_in, Unpacks}
-use Rattle.operands.specs.contracts.Operand.{the_type}
 use Rattle.operands.proofs.Cases.{other_cases}
 use Rattle.shapes.specs.Shape.{Sound}
 use Rattle.packing.specs.Stands.{StandsValue, StandsDivisor}
@@ -34,7 +31,7 @@ abbrev pub Writes : Format → ℕ → ℕ → Outcome → Type 0
 Writes f p q r = (p ≡ pattern_of f (finite r.value)) × (q ≡ quotient_bits r.whole)
 
 -- what the code has found not to be unpacked is not divided
-pub not_divided : (x : Operand) → OneOf (0 ∷ 1 ∷ 2 ∷ 3 ∷ []) (tag_of the_type x) → (y : Divisor) → 0 ≡ divisor_divisions x y
+pub not_divided : (x : Operand) → ((u : Unpacked) → x ≡ Finite u → ⊥) → (y : Divisor) → 0 ≡ divisor_divisions x y
 not_divided x k y = other_cases (λ (o : Operand). 0 ≡ divisor_divisions o y) refl (λ n s. refl) (λ n. refl) (λ n. refl) x k
 
 module _ (f : Format) (ok : Sound f) (κ : Kind) where
@@ -48,7 +45,7 @@ module _ (f : Format) (ok : Sound f) (κ : Kind) where
     by_unbounded = kept _ refl
 
     -- a value that the code has found not to be unpacked, so that it is a zero
-    pub zero_kept : OneOf (0 ∷ 1 ∷ 2 ∷ 3 ∷ []) (tag_of the_type x) → (y : Divisor) → StandsDivisor f y → Writes f p 0 (finish κ (divisor_in f.smallest y) (value_operand f.smallest x))
+    pub zero_kept : ((u : Unpacked) → x ≡ Finite u → ⊥) → (y : Divisor) → StandsDivisor f y → Writes f p 0 (finish κ (divisor_in f.smallest y) (value_operand f.smallest x))
     unfolding finish class_in
     zero_kept k Unbounded sy = by_unbounded
     zero_kept k (By b) sy =

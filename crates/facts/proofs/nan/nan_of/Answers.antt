@@ -18,21 +18,18 @@ returns-in_default c =
 pub quiet-requires : goal.quiet-requires
 quiet-requires c =
     let a = c.args in
-    let told = c.negative-1.given in
-    (c.requires.0, chosen_held (format_of a.shape) a.x a.y c.choose.result c.choose.ensures told.0.0 told.0.1.0 c.requires.1 c.requires.2 told.1)
+    (c.requires.0, chosen_held (format_of a.shape) a.x a.y c.choose.result c.choose.ensures c.in-Nan.negative c.in-Nan.stored c.requires.1 c.requires.2 c.in-Nan.is)
 
 pub pack-requires : goal.pack-requires
 pack-requires c =
     let a = c.args in
     let f = format_of a.shape in
-    let told = c.negative-1.given in
-    let h = chosen_held f a.x a.y c.choose.result c.choose.ensures told.0.0 told.0.1.0 c.requires.1 c.requires.2 told.1 in
-    (c.requires.0, rw c.quiet.ensures (nan_stands f told.0.0 _ (quieted_stored f c.requires.0.regular told.0.1.0 h)))
+    let h = chosen_held f a.x a.y c.choose.result c.choose.ensures c.in-Nan.negative c.in-Nan.stored c.requires.1 c.requires.2 c.in-Nan.is in
+    (c.requires.0, rw c.quiet.ensures (nan_stands f c.in-Nan.negative _ (quieted_stored f c.requires.0.regular c.in-Nan.stored h)))
 
 pub returns : goal.returns
 unfolding class_in
 returns c =
     let a = c.args in
-    let told = c.negative-1.given in
     (rw c.quiet.ensures at c.pack.ensures)
-    ∙ chosen_nan (format_of a.shape) a.x a.y c.choose.result c.choose.ensures told.0.0 told.0.1.0 told.1
+    ∙ chosen_nan (format_of a.shape) a.x a.y c.choose.result c.choose.ensures c.in-Nan.negative c.in-Nan.stored c.in-Nan.is

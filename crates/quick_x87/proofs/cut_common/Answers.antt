@@ -1,0 +1,43 @@
+-- `cut_common` meets its contract: the division to `size` places, written in the place that is left.
+use mathlib.Core.Path.{◌≡◌, sym, ap, ◌∙◌}
+use Prim.Native.Nat.{ℕ, ◌+◌, ◌-◌, ◌*◌, ◌/◌, ◌%◌, ◌^◌, ◌≤◌}
+use native.Mathlib.Omega.{arith}
+use lib.Dec.{leb}
+use Rattle.chains.proofs.Step.{sized_bounds}
+use Rattle.digits.proofs.Common.{mod_times}
+use Rattle.definitions.specs.Class.{finite}
+use Rattle.definitions.specs.Format.{x87, words, pattern_of}
+use Rattle.definitions.specs.Remainder.{quotient_bits}
+use Rattle.division.specs.declared.Divided.{Divided}
+use Rattle.quotients.proofs.Bits.{bits_low}
+use Rattle.quick.proofs.Normals.{exponent_field}
+use Rattle.quick_x87.proofs.Parts.{Parts, both}
+use Rattle.quick_x87.proofs.Steps.{cut_report}
+use borrow.Author.Rules.{rules}
+use Rattle.quick_x87.proofs.cut_common.Goals as goal
+
+pub returns : goal.returns
+returns c κ =
+    let pair : Parts c.args.x c.args.xw × Parts c.args.y c.args.yw =
+        let f = c.ranges in both _ _ _ _ f.x.fits f.xw.fits f.y.fits f.yw.fits c.requires.0
+    in
+    let small : c.args.size ≤ 63 =
+        (sized_bounds c.args.size c.requires.3).1
+    in
+    let a = c.args in
+    let p = pair in
+    let q = a.x * 2 ^ a.size / a.y in
+    let places : a.gap - a.size + a.size ≡ exponent_field x87 (words a.xw a.x) - exponent_field x87 (words a.yw a.y) = omega (arith, small, c.requires.1, c.requires.2, p.0.field, p.1.field) in
+    let rest = ap (λ (l : Divided). l.remainder) c.divide_quick-left.ensures in
+    let field = c.field_of.ensures ∙ sym p.0.field in
+    let part : c.shifted-quotient.result ≡ q * 2 ^ (a.gap - a.size) % 2 ^ 32 =
+    c.shifted-quotient.ensures ∙ ap (λ (l : Divided). l.quotient * 2 ^ (a.gap - a.size) % 2 ^ 32) c.divide_quick-left.ensures ∙ mod_times q (2 ^ (a.gap - a.size)) (2 ^ 32) in
+    let quotient = c.quotient_bits.ensures ∙ ap quotient_bits part ∙ bits_low (q * 2 ^ (a.gap - a.size)) in
+    (λ i. record {
+      number = 1;
+      value = (c.written.ensures ∙ (λ k. pattern_of x87 (finite (record { negative = sym p.0.sign k; count = rest k * 2 ^ (field k - a.size - 1) })))) i;
+      quotient = quotient i;
+      steps = 1;
+    })
+    ∙ sym (cut_report (words a.xw a.x) (words a.yw a.y) p.0.normal p.1.normal a.size c.requires.3 κ (omega (arith, places, c.requires.2, small)) (a.gap - a.size) places
+    ∙ rw (p.0.significand, p.1.significand))
