@@ -63,9 +63,8 @@ returns c =
     let left : Divided =
         c.divide_short-left.result
     in
-    let settled_is : let d = c in let s = c d in c.settle-settled.result ≡ settled_of (rounds_up s.args.kind left.quotient left.remainder b) (leb (sign_weight f) x) left b =
-        let s = c in
-    let u = rounds_up s.args.kind left.quotient left.remainder b in
+    let settled_is : c.settle-settled.result ≡ settled_of (rounds_up c.args.kind left.quotient left.remainder b) (leb (sign_weight f) x) left b =
+        let u = rounds_up c.args.kind left.quotient left.remainder b in
     c.settle-settled.ensures ∙ ap (λ (w : ℕ). settled_of u (leb w x) left b) c.sign_weight.ensures
     in
     let field : ℕ =
@@ -89,8 +88,8 @@ returns c =
     let left_is : left ≡ divided_of a b (field_of f x - field_of f y) =
         c.divide_short-left.ensures ∙ (λ i. divided_of a b (c.field_of.ensures i - field_is i))
     in
-    let significand_word : (b : ℕ) → r ≡ normal_significand f b → r ≡ normal_significand f b * 2 ^ 0 =
-        λ b e. e ∙ sym (mul-one (normal_significand f b))
+    let significand_word : (v r : ℕ) → r ≡ normal_significand f v → r ≡ normal_significand f v * 2 ^ 0 =
+        λ v r e. e ∙ sym (mul-one (normal_significand f v))
     in
     let a_is : a ≡ normal_significand f c.args.x =
         c.significand_of.ensures ∙ significand_is f short c.args.x

@@ -14,7 +14,7 @@ use Rattle.shapes.specs.Shape.{format_of}
 use Rattle.quick_short.proofs.Formats.{twice, leading_small}
 use Rattle.quick_short.proofs.Pattern.{zero_pattern, Shift, shift_under, shifted_small, written_fits, written_is}
 use borrow.Author.Rules.{rules}
-use Rattle.quick_short.proofs.written.Goals.{else-negative, then-negative}
+use Rattle.quick_short.proofs.written.Goals.{else-negative, then-negative, else-zeros-field, then-zeros-field}
 use Rattle.quick_short.proofs.written.Goals as goal
 
 pub returns-then-significand-eq0 : goal.returns-then-significand-eq0
@@ -71,7 +71,7 @@ overflow_add-result c =
         pos_of_ne-zero c.if-significand-eq0.false
     in
     let shift_is : Shift f c.requires.0 c.args.negative sign c.args.significand c.args.field z signed some c.requires.1 c.requires.2 c.requires.3 zeros c.if-zeros-field.shift =
-        ⊎_elim (λ w. inl (w.0.taken, w.1)) (λ w. inr (w.0.left, w.1)) c.if-zeros-field.came
+        elim c.if-zeros-field.branch [ then-zeros-field w ↦ inl (w.if-zeros-field.true, w.shift-is) | else-zeros-field w ↦ inr (w.if-zeros-field.false, w.shift-is) ]
     in
     let small : c.args.significand * 2 ^ c.if-zeros-field.shift < 2 ^ c.args.shape.precision =
         shifted_small f c.requires.0 c.args.negative sign c.args.significand c.args.field z signed some c.requires.1 c.requires.2 c.requires.3 zeros c.if-zeros-field.shift shift_is
@@ -115,7 +115,7 @@ overflow_add-result-2 c =
         pos_of_ne-zero c.if-significand-eq0.false
     in
     let shift_is : Shift f c.requires.0 c.args.negative sign c.args.significand c.args.field z signed some c.requires.1 c.requires.2 c.requires.3 zeros c.if-zeros-field.shift =
-        ⊎_elim (λ w. inl (w.0.taken, w.1)) (λ w. inr (w.0.left, w.1)) c.if-zeros-field.came
+        elim c.if-zeros-field.branch [ then-zeros-field w ↦ inl (w.if-zeros-field.true, w.shift-is) | else-zeros-field w ↦ inr (w.if-zeros-field.false, w.shift-is) ]
     in
     let small : c.args.significand * 2 ^ c.if-zeros-field.shift < 2 ^ c.args.shape.precision =
         shifted_small f c.requires.0 c.args.negative sign c.args.significand c.args.field z signed some c.requires.1 c.requires.2 c.requires.3 zeros c.if-zeros-field.shift shift_is
@@ -159,7 +159,7 @@ returns c =
         pos_of_ne-zero c.if-significand-eq0.false
     in
     let shift_is : Shift f c.requires.0 c.args.negative sign c.args.significand c.args.field z signed some c.requires.1 c.requires.2 c.requires.3 zeros c.if-zeros-field.shift =
-        ⊎_elim (λ w. inl (w.0.taken, w.1)) (λ w. inr (w.0.left, w.1)) c.if-zeros-field.came
+        elim c.if-zeros-field.branch [ then-zeros-field w ↦ inl (w.if-zeros-field.true, w.shift-is) | else-zeros-field w ↦ inr (w.if-zeros-field.false, w.shift-is) ]
     in
     let small : c.args.significand * 2 ^ c.if-zeros-field.shift < 2 ^ c.args.shape.precision =
         shifted_small f c.requires.0 c.args.negative sign c.args.significand c.args.field z signed some c.requires.1 c.requires.2 c.requires.3 zeros c.if-zeros-field.shift shift_is
