@@ -35,7 +35,7 @@ for theorem in $(awk '/^## / { within = ($2 == "2." || $2 == "3.") } within' doc
 done
 
 # and wherever a page has such a name between backquotes, alone or in a formula, it is a word of what the repository is made of
-find crates/*/src crates/*/specs crates/*/proofs rust tests bench include examples Makefile crates.txt -name target -prune -o -type f -print |
+find -H crates/*/src crates/*/specs crates/*/proofs rust tests bench include examples Makefile crates.txt -name target -prune -o -type f -print |
     xargs cat | tr -c 'A-Za-z0-9_' '\n' | sort -u > "$listed"
 for page in README.md docs/[A-Z]*.md; do
     [ "$page" != docs/PORT.md ] || continue # it names what is gone
@@ -95,7 +95,18 @@ while read -r file name times; do
     found=$(grep -vE '^ *(//|use |pub fn |fn )' "$file" | grep -oE "(^|[^a-z0-9_])$name[(]" | wc -l)
     [ "$found" -eq "$times" ] || say "$file calls $name $found times, not $times"
 done < "$listed"
-[ "$loops" = 'crates/division/src/turns.rt ' ] || say "docs/PROOF.md: a binary64 remainder has other loops: $loops"
+# short_division is of binary16 and binary32: quick_short alone calls it, and no function of binary64 calls quick_short
+wanted='crates/division/src/turns.rt '
+case " $crates " in *[[:space:]]short_division[[:space:]]*)
+    wanted="$wanted""crates/short_division/src/lib.rt "
+    [ "$(grep -rl 'use short_division\|short_division::' crates/*/src | sort | tr '\n' ' ')" = 'crates/quick_short/src/lib.rt ' ] ||
+        say 'docs/PROOF.md: more than quick_short calls short_division'
+    awk '/^(pub )?fn / { match($0, /fn [a-z0-9_]+/); name = substr($0, RSTART + 3, RLENGTH - 3) }
+        /is_quick|remainder_quick|remainder_short[(]/ && $0 !~ /^(use|ghost use|    (ensures|requires)) / && name !~ /^remainder(16|32|_short)$/ { print FILENAME ": " name " calls quick_short"; bad = 1 }
+        END { exit bad }' crates/remainder/src/patterns.rt || wrong=1
+    ;;
+esac
+[ "$loops" = "$wanted" ] || say "docs/PROOF.md: a binary64 remainder has other loops: $loops"
 [ "$(sed -n 's/^version = //p' rust/zukemoriha/Cargo.toml)" = "$(sed -n 's/^#define ZK_VERSION //p' include/zukemoriha.h)" ] ||
     say 'the Rust crate and the header are of different versions'
 [ $wrong -eq 0 ] && echo 'what the documents name is there'
