@@ -35,7 +35,7 @@ for theorem in $(awk '/^## / { within = ($2 == "2." || $2 == "3.") } within' doc
 done
 
 # and wherever a page has such a name between backquotes, alone or in a formula, it is a word of what the repository is made of
-find -H crates/*/src crates/*/specs crates/*/proofs rust tests bench include examples Makefile crates.txt -name target -prune -o -type f -print |
+find -H crates/*/src crates/*/specs crates/*/proofs rust tests bench include examples Makefile crates.txt -name target -prune -o -type f ! -name altered.sh -print |
     xargs cat | tr -c 'A-Za-z0-9_' '\n' | sort -u > "$listed"
 for page in README.md docs/[A-Z]*.md; do
     [ "$page" != docs/PORT.md ] || continue # it names what is gone
