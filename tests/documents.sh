@@ -80,7 +80,7 @@ done
 code=$(for crate in $crates; do find crates/$crate/src -name '*.rt'; done)
 loops=$(grep -HE '^[^/]*\b(while|loop)\b|^[^/]*\bfor [^ ].* in |^[^/]*[.]([a-z_]*iter[a-z_]*|chars|bytes|windows|chunks[a-z_]*|lines|split[a-z_]*)[(]' $code |
     cut -d: -f1 | tr '\n' ' ')
-recursive=$(for crate in $crates; do find crates/$crate/proofs -name '+*'; done
+recursive=$(for crate in $crates; do find crates/$crate -name out -prune -o -name '+*' -print; done
     grep -HE '^ *#\[cycle' $code || true
     for file in $code; do
         awk '/^ *(pub )?(extern "C" )?fn [a-z0-9_]+/ { match($0, /fn [a-z0-9_]+/); name = substr($0, RSTART + 3, RLENGTH - 3); next }
