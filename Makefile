@@ -1,4 +1,4 @@
-# Everything that README.md names: `make help` lists it. All that is made lies below target/.
+# Everything that README.md names: `make help` lists it. All that is made lies below target/, and in crates/*/out, where rt keeps its work.
 
 prefix = /usr/local
 libdir = $(prefix)/lib
@@ -34,6 +34,8 @@ placed = $(out)/prefix
 pc = zukemoriha.pc.in
 
 exports = export_remainder export_remquo export_steps export_scaling export_fold export_facts export_stems
+# the line program, where rt leaves it
+lines = crates/remainder_lines/out/remainder_lines
 programs = host untouched nans chains fold half fprem libm ldexp stems stem_writer modes
 sanitized = sanitized-stems sanitized-stem_writer
 version = $(shell sed -n 's/^\#define ZK_VERSION "\(.*\)"/\1/p' include/zukemoriha.h)
@@ -58,19 +60,19 @@ help: ## this list
 	@sed -n 's/^\([a-z-]*\):.*## \(.*\)/  make \1\t\2/p' $(firstword $(MAKEFILE_LIST)) | expand -t 22
 
 run: ## prove and build the line program, and run it on its sample (two minutes)
-	rt check remainder_lines
-	target/bin/remainder_lines < examples/lines.in | tee target/lines.out
+	$(build-lines)
+	$(lines) < examples/lines.in | tee target/lines.out
 	@diff examples/lines.out target/lines.out
 
-# rt ci proves all from nothing; the archive is built of what it has proved; its verdict is held back until the tests have passed too
+# rt ci is the gate of the proofs; the tests are run on an archive that is made after it; its verdict is held back until they have passed too
 test: tools ## the gate: every proof, every edit that must be refused, every test; ends in 'N passed, 0 failed'
-	rt fmt --check
-	rt ci | sh tests/held.sh || { cat target/verdict; exit 1; }
+	rt ci | sh tests/held.sh target || { cat target/verdict; exit 1; }
+	rm -f target/libzukemoriha.a
 	$(parallel) tests
 	@cat target/verdict
 
 check: tools ## what has changed is proved, then the tests (minutes)
-	rt check
+	rt all check
 	$(parallel) tests
 	@echo 'every crate proved, every test passed'
 
@@ -87,7 +89,7 @@ figures: $(out)/bench | meters ## draw docs/figures anew: the time of one call a
 	mkdir -p docs/figures
 	sh bench/figures.sh $(out)/bench $(out) $(newest) docs/figures
 
-times: ## the seconds of each crate and each edit in the last `make test`
+times: ## when each crate was proved in the last `make test`, and its edits
 	@test -f target/ci.log || { echo 'there are no times yet: run make test first'; exit 1; }
 	@awk -f tests/times.awk target/ci.log
 
@@ -105,7 +107,7 @@ uninstall: ## what install has put there
 	rm -f $(DESTDIR)$(libdir)/libzukemoriha.a $(DESTDIR)$(includedir)/zukemoriha.h $(DESTDIR)$(pkgconfigdir)/zukemoriha.pc
 
 clean: ## remove all that is made
-	rm -rf target rust/target
+	rm -rf target rust/target crates/*/out
 
 # ---- what the commands need beyond the kit: Debian's packages, where something is missing
 
@@ -129,12 +131,15 @@ meters:
 
 # ---- the archive
 
-# rt proves again what has changed, and compiles each crate of exports; ar joins their objects
-target/libzukemoriha.a: $(shell find crates -name '*.rt' -o -name '*.antt') crates.txt | joiner
-	rt check $(exports)
-	for crate in $(exports); do rt staticlib $$crate; done
+# rt proves what has changed, and compiles each crate of exports as a static library; ar joins their objects
+target/libzukemoriha.a: $(shell find crates -path '*/out' -prune -o \( -name '*.rt' -o -name '*.antt' \) -print) crates.txt | joiner
+	for crate in $(exports); do (cd crates/$$crate && rt lib); done
+	mkdir -p $(@D)
 	rm -f $@
-	{ echo create $@; printf 'addlib target/staticlib/lib%s.a\n' $(exports); echo save; echo end; } | ar -M
+	{ echo create $@; $(foreach crate,$(exports),echo addlib crates/$(crate)/out/lib$(crate).a;) echo save; echo end; } | ar -M
+
+# rt proves and builds the line program, and runs it, here on nothing
+build-lines = (cd crates/remainder_lines && rt run < /dev/null); mkdir -p target
 
 # what the tests are linked with: a copy, so that another library is a newer file, whatever its date
 $(linked): $(LIB) always | $(out)
@@ -181,7 +186,7 @@ install-check: $(linked)
 
 # the tests run the line program; rt builds it again if it has changed, and nothing else here calls rt once there is an archive
 rust: $(linked)
-	rt check remainder_lines
+	$(build-lines)
 	cd rust && $(cargo) test --release --offline --locked --no-fail-fast --features zukemoriha/std
 	cd rust && RUSTDOCFLAGS='-D warnings' $(cargo) doc --no-deps --offline --quiet
 
@@ -314,6 +319,6 @@ bench-calls: $(out)/bench | meters
 	sh bench/tables.sh $(out)/bench $(out) $(newest)
 
 bench-lines: | $(out)
-	rt check remainder_lines
+	$(build-lines)
 	$(CC) -std=c99 -O2 $(warnings) bench/lines.c -lm -o $(out)/lines
-	sh bench/lines.sh $(out)/lines target/bin/remainder_lines
+	sh bench/lines.sh $(out)/lines $(lines)

@@ -18,7 +18,7 @@ const GOOD: &[u8] = b"4016000000000000 4000000000000000";
 const LONGER: &[u8] = b"4016000000000000 40000000000000000";
 
 fn start(input: impl Into<Stdio>, output: impl Into<Stdio>) -> Child {
-    let program = format!("{ROOT}/target/bin/remainder_lines");
+    let program = format!("{ROOT}/crates/remainder_lines/out/remainder_lines");
     let mut command = Command::new(&program);
     command.stdin(input).stdout(output).stderr(Stdio::piped());
     let child = command.spawn();
