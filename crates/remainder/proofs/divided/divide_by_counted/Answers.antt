@@ -40,7 +40,6 @@ returns-in_default-y c =
     })
 
 pub gap-requires : goal.gap-requires
-unfolding format
 gap-requires c =
     let format : Format =
         format_of c.args.shape
@@ -54,7 +53,6 @@ gap-requires c =
     (ready format c.requires.0 _ dividend, ready format c.requires.0 _ divisor)
 
 pub finish_counted-counted-requires : goal.finish_counted-counted-requires
-unfolding format
 finish_counted-counted-requires c =
     let format : Format =
         format_of c.args.shape
@@ -68,7 +66,6 @@ finish_counted-counted-requires c =
     (ready format c.requires.0 _ dividend, ready format c.requires.0 _ divisor, to_z-of_z w32 c.gap.result (record { sfits = c.gap.type_inv }) ∙ c.gap.ensures)
 
 pub pack-requires-2 : goal.pack-requires-2
-unfolding format
 pack-requires-2 c =
     let format : Format =
         format_of c.args.shape
@@ -82,7 +79,6 @@ pack-requires-2 c =
     (c.requires.0, value_stands format c.requires.0 _ (left_stands format c.requires.0 c.args.kind _ _ dividend divisor c.finish_counted-counted.result.left c.finish_counted-counted.ensures.left))
 
 pub returns : goal.returns
-unfolding format
 returns c =
     let format : Format =
         format_of c.args.shape

@@ -31,6 +31,6 @@ returns-in-Accepted c =
         accepted_number _ _ c.in-Accepted.is (c.judge_pair.ensures c.args.shape.smallest _ _ c.requires.1.is c.requires.2.is)
     in
     let e = rw c.divisor_of.ensures at c.divide_by_counted-counted.ensures in record {
-      answer = answered (format_of c.args.shape) c.requires.0 c.args.x c.args.y c.args.kind none _ _ (e.0, e.1.0);
-      divisions = e.1.1;
+      answer = answered (format_of c.args.shape) c.requires.0 c.args.x c.args.y c.args.kind none _ _ (e.value, e.quotient);
+      divisions = e.divisions;
     }

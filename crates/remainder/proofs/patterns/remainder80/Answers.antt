@@ -34,7 +34,9 @@ returns-then-is_kept c =
         λ q r t e. (finished_answer x87 c.args.kind x y q.value q.quotient r.answer t.0 e, t.1 ∙ normals_denormal x87 c.args.kind x y pair.0.normal pair.1.normal)
     in
     let q = c.remainder_kept in
-    answered q.result c.told_of80.result c.told_of80.ensures q.ensures
+    let t = c.told_of80 in
+    let k = answered q.result t.result (t.ensures.answer, t.ensures.denormal) q.ensures in
+    record { answer = k.0; denormal = k.1 }
 
 pub returns : goal.returns
 returns c =
@@ -54,4 +56,6 @@ returns c =
         λ q r t e. (finished_answer x87 c.args.kind x y q.value q.quotient r.answer t.0 e, t.1 ∙ normals_denormal x87 c.args.kind x y pair.0.normal pair.1.normal)
     in
     let q = c.remainder_common in
-    answered q.result c.told_of80-2.result c.told_of80-2.ensures q.ensures
+    let t = c.told_of80-2 in
+    let k = answered q.result t.result (t.ensures.answer, t.ensures.denormal) q.ensures in
+    record { answer = k.0; denormal = k.1 }

@@ -39,9 +39,8 @@ returns-in-Refused c u ok =
         c.judge_call.ensures x87.smallest (class_in x87.smallest c.args.x) (class_in x87.smallest c.args.y) c.requires.0.is c.requires.1.is
     in
     let a = c.args in
-    let w = c.why-1.given in
-    refused_call u a.kind a.size a.budget (class_in x87.smallest a.x) (class_in x87.smallest a.y) w.0.0 _
-    (refused_number c.judge_call.result w.0.0 _ w.1 judged) (rw c.shape.ensures at c.refused_value.ensures)
+    refused_call u a.kind a.size a.budget (class_in x87.smallest a.x) (class_in x87.smallest a.y) c.in-Refused.why _
+    (refused_number c.judge_call.result c.in-Refused.why _ c.in-Refused.is judged) (rw c.shape.ensures at c.refused_value.ensures)
 
 pub returns-in-Accepted : goal.returns-in-Accepted
 returns-in-Accepted c u ok =
