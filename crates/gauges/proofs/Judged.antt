@@ -31,13 +31,13 @@ positive_operand (Zero n) = false
 positive_operand (Finite u) = not u.negative
 
 -- neither of two, as the code asks one after the other
-pub neither_second : (a b : Bool) → not a ≡ true → not b ≡ not (a || b)
-neither_second true b e = absurd (subst T (sym e) tt)
+pub neither_second : (a b : Bool) → a ≡ false → not b ≡ not (a || b)
+neither_second true b e = absurd (subst T e tt)
 neither_second false b e = refl
 
-pub neither_first : (a b : Bool) → not a ≡ false → not a ≡ not (a || b)
+pub neither_first : (a b : Bool) → a ≡ true → not a ≡ not (a || b)
 neither_first true b e = refl
-neither_first false b e = absurd (subst T e tt)
+neither_first false b e = absurd (subst T (sym e) tt)
 
 positive_told : (a : Class) → positive_operand (operand_of binary64.smallest a) ≡ is_positive a
 unfolding operand_of

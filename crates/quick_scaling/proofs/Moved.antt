@@ -16,7 +16,7 @@ use Rattle.definitions.specs.Round.{round}
 use Rattle.definitions.specs.Scale.{scale_value, scale_report, significand_of, split_report}
 use Rattle.definitions.specs.declared.Rounding.TheVariants.{Exact}
 use Rattle.laws.proofs.Gap.{cancel}
-use Rattle.laws.proofs.Layouts.{number, weight}
+use Rattle.laws.proofs.Layouts.{weight}
 use Rattle.laws.proofs.Pattern.{pack, pack_read}
 use Rattle.laws.proofs.Range.{exponent_is}
 use Rattle.laws.proofs.Representable.{leading_twice, shifted_held}

@@ -1,9 +1,6 @@
 -- What the code makes of a word that it rounds is what the definition makes of the count. Assumes nothing.
 use mathlib.Core.Path.{◌≡◌, refl, sym, ap, ◌∙◌, subst}
 use mathlib.Core.Bool.{Bool, true, false, cond}
-use mathlib.Core.List.{[], ◌∷◌}
-use denote.Enum.Declared.{tag_of}
-use types.Run.{OneOf}
 use Prim.Native.Nat.{ℕ, ◌+◌, ◌-◌, ◌*◌, ◌^◌, ◌<◌}
 use native.Mathlib.Nat.{eq_of_mul-eq-mul_right, lt_of_le_of_lt}
 use native.Mathlib.Omega.{arith}
@@ -28,7 +25,6 @@ use Rattle.operands.specs.Operand.{operand_of, unpacked_of, normal_of}
 use Rattle.operands.specs.declared.Operand.{Operand}
 use Rattle.operands.specs.declared.Operand.TheVariants.{Unsupported, Nan, Infinite, Zero, Finite}
 use Rattle.operands.specs.declared.Unpacked.{Unpacked}
-use Rattle.operands.specs.contracts.Operand.{the_type}
 use Rattle.operands.proofs.Cases.{other_cases}
 use Rattle.operands.proofs.Lead.{by_count, zero_operand_lem, some_operand}
 use Rattle.operands.proofs.Normal.{normal_operand}
@@ -86,7 +82,7 @@ module _ (p w place c : ℕ) (some : 0 < w) (word : w < 2 ^ 64) (is : rounded_to
       ap (limit_of f.bias) (normal_operand f.smallest s quotient t c small quotient_is) ∙ limit_operand f r s c
 
 -- what the code finds not to be a value is not limited
-pub limit_other : (bias : ℕ) (o : Operand) → OneOf (0 ∷ 1 ∷ 2 ∷ 3 ∷ []) (tag_of the_type o) → o ≡ limit_of bias o
+pub limit_other : (bias : ℕ) (o : Operand) → ((x : Unpacked) → o ≡ Finite x → ⊥) → o ≡ limit_of bias o
 limit_other bias o k = other_cases (λ (o : Operand). o ≡ limit_of bias o) refl (λ n s. refl) (λ n. refl) (λ n. refl) o k
 
 -- leading zeros take few places from an exponent
