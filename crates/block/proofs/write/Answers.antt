@@ -19,14 +19,17 @@ fill_block-requires-in-Unfinished c =
 pub returns-in-Finished : goal.returns-in-Finished
 unfolding steps_meaning
 returns-in-Finished c =
-    filled _ _ _ c.in-Finished.is _ _ refl c.fill_block.ensures
+    let k = filled _ _ _ c.in-Finished.is _ _ refl c.fill_block.ensures in
+    record { number = k.0; block = k.1 }
 
 pub returns-in-Unfinished : goal.returns-in-Unfinished
 unfolding steps_meaning
 returns-in-Unfinished c =
-    filled _ _ _ c.in-Unfinished.is _ _ c.requires.2 c.fill_block-in-Unfinished.ensures
+    let k = filled _ _ _ c.in-Unfinished.is _ _ c.requires.2 c.fill_block-in-Unfinished.ensures in
+    record { number = k.0; block = k.1 }
 
 pub returns-in-Refused : goal.returns-in-Refused
 unfolding steps_meaning
 returns-in-Refused c =
-    untouched _ _ _ c.in-Refused.is _ _ (refusal_refuses c.in-Refused.why) c.number_of.ensures
+    let k = untouched _ _ _ c.in-Refused.is _ _ (refusal_refuses c.in-Refused.why) c.number_of.ensures in
+    record { number = k.0; block = k.1 }

@@ -24,7 +24,7 @@ powers_for-known-requires c = (c.prepare-divisor.ensures.1, c.loop-at.invariant.
 
 pub place_prepared-place-requires : goal.place_prepared-place-requires
 place_prepared-place-requires c =
-    (c.requires.0, c.prepare-divisor.ensures.0 ∙ c.spread.ensures, c.prepare-divisor.ensures.1, c.type_inv.table.ensures.0, c.type_inv.table.ensures.1)
+    (c.requires.0, c.prepare-divisor.ensures.0 ∙ c.spread.ensures, c.prepare-divisor.ensures.1, c.powers_for-known.ensures.0, c.powers_for-known.ensures.1)
 
 pub loop-at-preserved : goal.loop-at-preserved
 loop-at-preserved c =
@@ -33,7 +33,7 @@ loop-at-preserved c =
     let a = c.args in (
       elim c.if-shown.branch [ then-shown w ↦ rw w.marked-is (marked_more a.kind a.y a.x.now a.results.now a.quotients.now c.requires.1 c.requires.2 l.results l.quotients l.marked l.at l.invariant.0 (omega arith) p.result p.ensures w.if-shown.true)
     | else-shown w ↦ rw w.marked-is (unmarked_more a.kind a.y a.x.now a.results.now a.quotients.now c.requires.1 c.requires.2 l.results l.quotients l.marked l.at l.invariant.0 (omega arith) p.result p.ensures w.if-shown.false) ],
-      c.type_inv.table.ensures.0,
+      c.powers_for-known.ensures.0,
     )
 
 pub returns : goal.returns

@@ -22,7 +22,7 @@ normal-accepted y some low =
 pub returns-then-field-lt2047 : goal.returns-then-field-lt2047
 returns-then-field-lt2047 c =
     let f = c.field_of-field in
-    normal-accepted c.args.y (rw f.ensures at c.if-field-gt0.true) (ltb-true (field_of c.args.y) 2047 (rw f.ensures at c.if-field-lt2047.true))
+    normal-accepted c.args.y (rw f.ensures at c.if-field-gt0.true) (rw f.ensures at c.if-field-lt2047.true)
 
 pub returns : goal.returns
 returns c = c.verdict_number.ensures ∙ c.judge_divisor.ensures binary64.smallest _ c.of_pattern-divisor.ensures

@@ -1,0 +1,28 @@
+-- `zk_rem64` meets its contract: what it writes is what `remainder64` tells.
+use mathlib.Core.Path.{◌≡◌}
+use lib.Dec.{lit≤}
+use Rattle.definitions.specs.Format.{binary64}
+use Rattle.definitions.specs.Remainder.{remainder}
+use Rattle.definitions.specs.Answers.{remainder_meaning}
+use Rattle.definitions.specs.Block.{kind_of}
+use Rattle.laws.proofs.Regular.{regular64}
+use Rattle.export_remainder.proofs.Written.{finished, refused}
+use borrow.Author.Rules.{rules}
+use Rattle.export_remainder.proofs.zk_rem64.Goals as goal
+
+pub returns-in-Finished : goal.returns-in-Finished
+returns-in-Finished c =
+    let told : let a = c.args in remainder_meaning c.remainder64-answer.result.answer ≡ remainder binary64 (kind_of a.kind) a.x a.y =
+        rw c.kind_of.ensures at c.remainder64-answer.ensures.answer
+    in
+    let k = finished binary64 regular64 _ _ _ _ told _ _ c.in-Finished.is (lit≤ tt) in
+    record { number = k.0; value = k.1.0; quotient = k.1.1 }
+
+pub returns-in-Refused : goal.returns-in-Refused
+returns-in-Refused c =
+    let told : let a = c.args in remainder_meaning c.remainder64-answer.result.answer ≡ remainder binary64 (kind_of a.kind) a.x a.y =
+        rw c.kind_of.ensures at c.remainder64-answer.ensures.answer
+    in
+    let a = c.args in
+    let k = refused binary64 regular64 _ _ _ _ told _ _ _ c.in-Refused.is c.number_of.ensures a.value.now a.quotient.now in
+    record { number = k.0; value = k.1.0; quotient = k.1.1 }
