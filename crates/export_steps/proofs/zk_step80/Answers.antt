@@ -35,5 +35,5 @@ returns c =
     (rw c.kind_of.ensures at c.step80-answer.ensures.answer)
     ∙ step_fitting (kind_of a.kind) a.size (words a.xw a.x) (words a.yw a.y) (length a.block.now) c.if-block-ne-BLOCK_LENGTH.false
     in
-    let k = rw (← told) c.write.ensures in
-    record { number = k.0; block = k.1 }
+    let k = c.write.ensures in
+    record { number = rw (← told) k.number; block = rw (← told) k.block }
