@@ -15,7 +15,7 @@ use Rattle.definitions.specs.Remainder.{Remainder, remainder}
 use Rattle.definitions.specs.Fold.{bad}
 use Rattle.definitions.specs.Answers.{remainder_meaning, joined}
 use Rattle.definitions.specs.Difference.{difference}
-use Rattle.definitions.specs.Stem.{Gauge, turn, roller, period_of, is_positive, good, shifted, fold_reading}
+use Rattle.definitions.specs.Stem.{Gauge, period_of, is_positive, good, shifted, fold_reading}
 use Rattle.definitions.specs.declared.Kind.TheVariants.{Truncated}
 use Rattle.definitions.specs.declared.Pattern.{Pattern}
 use Rattle.definitions.specs.declared.Refusal.{Refusal}
