@@ -1,7 +1,7 @@
 -- What is told of operands, said once more: which of two NaNs, and denormal patterns. Assumes nothing.
 use mathlib.Core.Path.{◌≡◌, refl}
 use mathlib.Core.Bool.{Bool, true, false, not, cond, ◌&&◌, ◌||◌}
-use mathlib.Core.List.{List, [], ◌∷◌, map}
+use mathlib.Core.List.{[], ◌∷◌, map}
 use Prim.Native.Nat.{ℕ, ◌<◌, ◌≤◌}
 use borrow.Author.Tests.{lt-ltb, le-ltb}
 use lib.Dec.{ltb, eqb}
@@ -11,7 +11,7 @@ use Rattle.digits.proofs.Tests.{clash}
 use Rattle.definitions.specs.Class.{Class, unsupported, nan, infinite, finite, gap}
 use Rattle.definitions.specs.Format.{Format, binary16, binary32, binary64, x87, class_of, pattern_of, magnitude}
 use Rattle.definitions.specs.Numbers.{first, dividing, is_unsupported, is_nan, is_infinite, is_zero}
-use Rattle.definitions.specs.Facts.{nan_against, chosen, nan_of, denormal, told_denormal}
+use Rattle.definitions.specs.Facts.{chosen, nan_of, denormal, told_denormal}
 use Rattle.definitions.specs.Division.{finish, dividend_of, divisor_of}
 use Rattle.definitions.specs.Remainder.{remainder, remainder_of}
 use Rattle.definitions.specs.Signed.{signed_remainder, signed_of}

@@ -9,7 +9,7 @@ use lib.ListN.{length}
 use lib.IntN.{ℤ, pos}
 use Rattle.digits.proofs.Tests.{not_zero}
 use Rattle.definitions.specs.Class.{gap}
-use Rattle.definitions.specs.Format.{Format, words, class_of, pattern_of, magnitude, house_nan, x87}
+use Rattle.definitions.specs.Format.{words, class_of, pattern_of, magnitude}
 use Rattle.definitions.specs.Numbers.{first}
 use Rattle.definitions.specs.Facts.{denormal}
 use Rattle.definitions.specs.Division.{finish}

@@ -1,5 +1,5 @@
 -- Lists of step and run calls from one dividend, and what is claimed of every such list. Definitions only.
-use Rattle.std.specs.Prelude.{ℕ, ◌+◌, ◌*◌, ◌%◌, ◌≤◌, ◌≡◌, Bool, true, false, cond, ◌&&◌, ◌||◌, ◌⊎◌, List, [], ◌∷◌, ◌++◌, eqb, length, nat_abs, ◌+ℤ◌, ◌*ℤ◌}
+use Rattle.std.specs.Prelude.{ℕ, ◌+◌, ◌%◌, ◌≤◌, ◌≡◌, Bool, true, false, cond, ◌&&◌, ◌||◌, ◌⊎◌, List, [], ◌∷◌, ◌++◌, eqb, length, nat_abs, ◌+ℤ◌, ◌*ℤ◌}
 use Rattle.definitions.specs.Class.{Value, value_of, gap}
 use Rattle.definitions.specs.Format.{class_of, ordinary, x87}
 use Rattle.definitions.specs.Numbers.{accepted}

@@ -1,5 +1,6 @@
 // The words that the code and the definitions share. There is no code here: specs/ is what a reader has to believe, and
 // specs/Answers.antt gives the number and the values of each case of each answer below.
+#![tactic(auto)]
 
 // Which whole number the quotient is taken as.
 #[derive(Clone, Copy)]

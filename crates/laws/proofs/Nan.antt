@@ -2,17 +2,17 @@
 use mathlib.Core.Path.{◌≡◌, refl, sym, ap, ◌∙◌, subst}
 use mathlib.Core.Bool.{Bool, true, false, cond, ◌||◌}
 use mathlib.Core.Logic.{◌⊎◌, inl, inr}
-use Prim.Native.Nat.{ℕ, ◌+◌, ◌-◌, ◌*◌, ◌/◌, ◌%◌, ◌^◌, ◌≤◌, ◌<◌}
+use Prim.Native.Nat.{ℕ, ◌+◌, ◌-◌, ◌*◌, ◌/◌, ◌%◌, ◌^◌, ◌<◌}
 use native.Mathlib.Nat.{add-div_right, add-mod_right, mul_assoc, mul-add-div_right, div-div-eq-div-mul, div-lt_iff_lt-mul}
 use native.Mathlib.Omega.{arith}
 use borrow.Author.Tests.{eqb-true, eqb-false}
 use lib.Dec.{ltb, eqb}
 use lib.Pow.{pow-add, pow_pos}
 use Rattle.digits.proofs.Tests.{clash}
-use Rattle.definitions.specs.Class.{Value, Class, unsupported, nan, infinite, finite}
+use Rattle.definitions.specs.Class.{Class, unsupported, nan, infinite, finite}
 use Rattle.definitions.specs.Format.{Format, Regular, NanStored, Holds, top_field, leading, field_weight, stored_weight, with_sign, class_of, pattern_of, house_nan, patterns}
 use Rattle.definitions.specs.Numbers.{is_nan}
-use Rattle.definitions.specs.Facts.{nan_against, chosen, quiet_weight, quieted, quiet_pattern, nan_of}
+use Rattle.definitions.specs.Facts.{chosen, quiet_weight, quieted, quiet_pattern, nan_of}
 use Rattle.definitions.specs.declared.Layout.{Layout}
 use Rattle.definitions.specs.declared.Layout.TheVariants.{Hidden, Explicit}
 use Rattle.definitions.proofs.Facts.{chosen_nan, chosen_one, chosen_same}

@@ -1,6 +1,6 @@
 -- Rounding by a number of binary places: exact multiples, a common place, and what it does to the digits. Assumes nothing.
 use mathlib.Core.Path.{◌≡◌, refl, sym, ap, ap₂, ◌∙◌}
-use mathlib.Core.Bool.{Bool, true, false, not, cond, ◌&&◌}
+use mathlib.Core.Bool.{Bool, true, false, not, cond}
 use Prim.Native.Nat.{ℕ, ◌+◌, ◌-◌, ◌*◌, ◌/◌, ◌%◌, ◌^◌, ◌≤◌, ◌<◌}
 use native.Mathlib.Nat.{zero-mul, mul-div-mul_right, mul-mod_left, mul-div_cancel, mod-lt, mod-le, mod-add-div, mod-eq_of_lt, div-eq_of_lt, div-le_self, div-lt_self, pos_of_ne-zero, div-mul_cancel, one-dvd, dvd-mul_left, lt_of_lt_of_le, mul-le-mul_right}
 use native.Mathlib.Omega.{arith}

@@ -3,7 +3,7 @@ use mathlib.Core.Path.{◌≡◌, refl, ap, ◌∙◌}
 use Prim.Native.Nat.{ℕ, zero, suc, ◌+◌, ◌-◌, ◌*◌, ◌^◌, ◌<◌, ◌∣◌}
 use native.Mathlib.Nat.{div-mul_cancel, mul-pos, mul-dvd-mul_right, dvd_trans}
 use native.Mathlib.Omega.{arith}
-use lib.IntN.{pos, neg_ℤ, nat_abs, ◌+ℤ◌, +ℤ_invr}
+use lib.IntN.{pos, neg_ℤ, nat_abs, +ℤ_invr}
 use lib.Pow.{pow-add, pow_pos}
 use lib.Ieee.{size}
 use lib.Ieee.Positive.{first_pos}

@@ -1,13 +1,12 @@
 -- The difference of two patterns of binary32 or binary64 is the toolchain's own `sub` of IEEE 754 values, for every two. Assumes nothing.
 use mathlib.Core.Path.{◌≡◌, refl, sym, ap, ◌∙◌}
 use mathlib.Core.Bool.{Bool, true, false, not, cond, ◌&&◌, beq}
-use Prim.Native.Nat.{ℕ, zero, suc, ◌+◌, ◌-◌, ◌*◌, ◌/◌, ◌%◌, ◌^◌, ◌<◌, compare, Ordering}
+use Prim.Native.Nat.{ℕ, suc, ◌+◌, ◌-◌, ◌*◌, ◌/◌, ◌%◌, ◌^◌, ◌<◌, compare, Ordering}
 use native.Mathlib.Nat.{add-mul, mul_comm, mul_assoc, mul_right_comm, mul-pos, mul-div_cancel, lt_of_lt_of_le}
 use native.Mathlib.Numerals.{add-one}
 use native.Mathlib.Omega.{arith}
 use borrow.Author.Tests.{le-ltb, ltb-true, ltb-false, leb-true, leb-false, eqb-true, eqb-false}
-use lib.Dec.{ltb, eqb, is_le, compare_is_eq}
-use lib.IntN.{pos}
+use lib.Dec.{ltb, is_le, compare_is_eq}
 use lib.Pow.{pow_pos, pow_mono}
 use lib.Ieee as Ieee
 use lib.Ieee.{Float, fin, inf, prec, emax, low, up, down, size, nearest, odd, units, sum, sub, of_bits, to_bits}

@@ -2,13 +2,12 @@
 use mathlib.Core.Path.{◌≡◌, sym, ap, ◌∙◌}
 use mathlib.Core.Bool.{Bool}
 use Prim.Native.Nat.{ℕ, zero, suc, ◌+◌, ◌-◌, ◌*◌, ◌/◌, ◌^◌, ◌≤◌, ◌<◌}
-use native.Mathlib.Nat.{mul_assoc, mul-pos, mul-div_cancel, mul-div-mul_right, pos_of_ne-zero, zero-mul, zero-lt-suc, lt_of_lt_of_le}
+use native.Mathlib.Nat.{mul_assoc, mul-pos, mul-div_cancel, pos_of_ne-zero, zero-mul, zero-lt-suc, lt_of_lt_of_le}
 use native.Mathlib.Omega.{arith}
 use borrow.Author.Tests.{eq-eqb}
 use lib.Count.{count_leading_zeros}
-use lib.Dec.{eqb}
 use lib.IntN.{ℤ, pos, ◌+ℤ◌, ◌-ℤ◌, +ℤ_assoc, +ℤ-neg_ℤ_cancel}
-use lib.Pow.{pow-add, pow_pos, shr-shr}
+use lib.Pow.{pow-add, pow_pos}
 use lib.Ieee.{size}
 use Rattle.definitions.specs.Class.{finite}
 use Rattle.digits.proofs.Tests.{not_zero}

@@ -1,5 +1,5 @@
 -- A remainder of two patterns makes at most D / 11 + 2 divisions, in every format, and none where nothing is divided. Assumes nothing.
-use Rattle.std.proofs.Common.{◌≡◌, ℕ, ◌+◌, ◌/◌, ◌<◌, ◌≤◌, Bool, true, false, cond, eqb, ℤ, pos, negsuc, ◌-ℤ◌, nat_abs, refl, zero-le, pos_of_ne-zero, arith, le-ltb}
+use Rattle.std.proofs.Common.{◌≡◌, ℕ, ◌+◌, ◌/◌, ◌<◌, ◌≤◌, Bool, true, false, cond, eqb, ℤ, pos, negsuc, ◌-ℤ◌, nat_abs, refl, zero-le, pos_of_ne-zero, le-ltb}
 use borrow.Author.Tests.{eqb-false}
 use lib.Signed.{lt_z}
 use Rattle.definitions.specs.Class.{Value, Class, unsupported, nan, infinite, finite, gap}

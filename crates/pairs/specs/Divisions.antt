@@ -1,5 +1,5 @@
 -- How many divisions by the divisor's significand a remainder makes. Definitions only.
-use Rattle.std.specs.Prelude.{ℕ, Bool, cond, ℤ, pos, negsuc, ◌-ℤ◌, ◌==◌, int_lt, unsigned_abs}
+use Rattle.std.specs.Prelude.{ℕ, cond, ℤ, pos, negsuc, ◌-ℤ◌, ◌==◌, int_lt, unsigned_abs}
 use Rattle.definitions.specs.Class.{Class, unsupported, nan, infinite, finite, gap}
 use Rattle.definitions.specs.Format.{Format, class_of}
 use Rattle.operands.specs.declared.Unpacked.{Unpacked}

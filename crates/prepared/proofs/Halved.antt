@@ -1,5 +1,5 @@
 -- Half of a reciprocal is that of a divisor without its eleven spare bits. Assumes nothing.
-use Rattle.std.proofs.Common.{◌≡◌, ℕ, ◌+◌, ◌*◌, ◌/◌, ◌%◌, ◌^◌, ◌<◌, ◌≤◌, sym, ap, ◌∙◌, mul-le-mul_right, mul_assoc, div-add-mod', arith}
+use Rattle.std.proofs.Common.{◌≡◌, ℕ, ◌+◌, ◌*◌, ◌/◌, ◌%◌, ◌^◌, ◌≤◌, sym, ap, ◌∙◌, mul-le-mul_right, mul_assoc, div-add-mod', arith}
 
 -- p is 2 ^ 12 times q, and x is p / b, cut
 module _ (p q x b m e : ℕ) (is : x * b + e ≡ p) (left : e ≤ b) (whole : b ≡ m * 2 ^ 11) (scale : p ≡ q * 2 ^ 12) where

@@ -1,5 +1,5 @@
 -- Powers of two modulo a divisor, kept in a table. Assumes nothing.
-use Rattle.std.proofs.Common.{◌≡◌, ℕ, ◌+◌, ◌-◌, ◌*◌, ◌%◌, ◌^◌, ◌<◌, ◌≤◌, List, length, get_or, set, replicate, sym, refl, ap, ◌∙◌, ⊎_elim, eq-or-lt_of_le, ne_of_lt, arith, get_or-set_other, get_or-set_same, pow-add}
+use Rattle.std.proofs.Common.{◌≡◌, ℕ, ◌+◌, ◌-◌, ◌*◌, ◌%◌, ◌^◌, ◌<◌, ◌≤◌, List, get_or, set, replicate, sym, refl, ap, ◌∙◌, ⊎_elim, eq-or-lt_of_le, ne_of_lt, arith, get_or-set_other, get_or-set_same, pow-add}
 use Rattle.digits.proofs.Common.{mod_times}
 use Rattle.prepared.specs.Prepared.{Power, Powers}
 

@@ -1,6 +1,6 @@
 -- Quotients by a reciprocal, over any word. Assumes nothing.
 use Rattle.std.proofs.Common.{◌≡◌, ℕ, ◌+◌, ◌-◌, ◌*◌, ◌/◌, ◌%◌, ◌^◌, ◌<◌, ◌≤◌, Bool, true, false, ltb, ◌⊎◌, sym, refl, ap, ◌∙◌, inl, inr, ⊎_elim, mul-le-mul_right, mod-lt, mod-eq_of_lt, lt_of_mul-lt-mul_right, mul-le-mul_left, mul-pos, div-add-mod', le-div_iff_mul-le, arith, ltb-false, ltb-true}
-use native.Mathlib.Nat.{add-mod_right, mod-add-mod, div-add-mod}
+use native.Mathlib.Nat.{add-mod_right, mod-add-mod}
 use Rattle.digits.proofs.Common.{unique_div, unique_mod, mod_times}
 use Rattle.reciprocals.specs.Reciprocal.{quotient_of, inverse_of, Guess}
 use Rattle.reciprocals.specs.declared.Quotient.{Quotient}

@@ -1,5 +1,5 @@
 -- The shape of a format, as the code goes by it. Nothing to believe: these only name the code's own values.
-use Rattle.std.specs.Prelude.{ℕ, ◌+◌, ◌/◌, ◌%◌, ◌^◌, ◌≤◌, ◌≡◌, Bool, leb, ltb}
+use Rattle.std.specs.Prelude.{ℕ, ◌+◌, ◌/◌, ◌%◌, ◌^◌, ◌≤◌, ◌≡◌, leb, ltb}
 use Rattle.definitions.specs.Format.{Format, Regular, patterns, top_field, field_weight, sign_weight}
 use Rattle.definitions.specs.declared.Layout.{Layout}
 use Rattle.definitions.specs.declared.Layout.TheVariants.{Hidden, Explicit}

@@ -1,7 +1,7 @@
 -- `divide_counted` meets its contract: the tests are those of the count.
-use Rattle.std.proofs.Common.{◌<◌, sym, ◌∙◌, lt_of_lt_of_le, pow_pos, rules}
+use Rattle.std.proofs.Common.{◌<◌, sym, ◌∙◌, lt_of_lt_of_le, pow_pos}
 use Rattle.division.proofs.Zeros.{trailing_mod}
-use Rattle.division.proofs.Count.{counted_once, counted_near, counted_turns, near_all}
+use Rattle.division.proofs.Count.{counted_once, counted_near, counted_turns}
 use Rattle.division.proofs.divide_counted.Goals as goal
 
 pub divide_once-requires : goal.divide_once-requires
@@ -10,7 +10,7 @@ divide_once-requires c = (c.requires, trailing_mod c.args.b c.args.places c.if-p
 pub returns-then-places-b : goal.returns-then-places-b
 returns-then-places-b c =
     let some : 0 < c.args.b =
-        lt_of_lt_of_le (pow_pos 63) c.requires
+    lt_of_lt_of_le (pow_pos 63) c.requires
     in
     record {
       divided = c.divide_once.ensures;
@@ -20,7 +20,7 @@ returns-then-places-b c =
 pub returns-then-is_near : goal.returns-then-is_near
 returns-then-is_near c =
     let some : 0 < c.args.b =
-        lt_of_lt_of_le (pow_pos 63) c.requires
+    lt_of_lt_of_le (pow_pos 63) c.requires
     in
     record {
       divided = c.divide_near.ensures;
@@ -30,7 +30,7 @@ returns-then-is_near c =
 pub returns : goal.returns
 returns c =
     let some : 0 < c.args.b =
-        lt_of_lt_of_le (pow_pos 63) c.requires
+    lt_of_lt_of_le (pow_pos 63) c.requires
     in
     record {
       divided = c.divide_turns.ensures.divided;

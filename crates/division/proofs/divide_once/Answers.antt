@@ -1,6 +1,6 @@
 -- `divide_once` meets its contract.
-use Rattle.std.proofs.Common.{lt_of_lt_of_le, pow_pos, rules}
-use Rattle.division.proofs.Zeros.{under_word, divisor_some, short_div, short_mod, short_word}
+use Rattle.std.proofs.Common.{lt_of_lt_of_le, pow_pos}
+use Rattle.division.proofs.Zeros.{under_word, short_div, short_mod, short_word}
 use Rattle.division.proofs.divide_once.Goals as goal
 
 -- `divide_once` meets its contract. Assumes nothing.

@@ -1,7 +1,6 @@
 -- `float_of` meets its contract.
 use mathlib.Core.Path.{sym, ◌∙◌}
 use Rattle.floats.proofs.Nan.{number, read_nan, zero_by_zero}
-use borrow.Author.Rules.{rules}
 use Rattle.floats.proofs.float_of.Goals as goal
 
 -- `float_of` meets its contract. Assumes nothing.

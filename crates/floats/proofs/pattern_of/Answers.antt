@@ -2,7 +2,6 @@
 use mathlib.Core.Path.{sym, ap, ◌∙◌}
 use lib.Ieee.{binary64, to_bits}
 use Rattle.floats.proofs.Nan.{not_nan, only_nan, house}
-use borrow.Author.Rules.{rules}
 use Rattle.floats.proofs.pattern_of.Goals as goal
 
 -- `pattern_of` meets its contract. Assumes nothing.

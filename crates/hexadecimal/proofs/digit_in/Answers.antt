@@ -2,7 +2,6 @@
 use mathlib.Core.Path.{sym, ◌∙◌}
 use Rattle.hexadecimal.specs.Field.{digit_in}
 use Rattle.hexadecimal.proofs.HexDigits.{digit_value}
-use borrow.Author.Rules.{rules}
 use Rattle.hexadecimal.proofs.digit_in.Goals as goal
 
 pub returns-then-is_hex : goal.returns-then-is_hex

@@ -1,6 +1,5 @@
 -- `is_hex` meets its contract.
 use mathlib.Core.Path.{sym, ◌∙◌}
-use borrow.Author.Rules.{rules}
 use Rattle.hexadecimal.proofs.is_hex.Goals as goal
 
 pub returns-then-between : goal.returns-then-between

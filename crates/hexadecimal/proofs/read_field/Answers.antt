@@ -2,7 +2,7 @@
 use mathlib.Core.Path.{◌≡◌, refl, sym, ap, ◌∙◌}
 use mathlib.Core.Bool.{true}
 use mathlib.Core.List.{[]}
-use Prim.Native.Nat.{suc, ◌+◌, ◌-◌, ◌*◌, ◌^◌, ◌≤◌, ◌<◌}
+use Prim.Native.Nat.{suc, ◌+◌, ◌*◌, ◌^◌, ◌<◌}
 use native.Mathlib.Numerals.{add-one}
 use native.Mathlib.Omega.{arith}
 use borrow.Author.Tests.{eq-eqb, ne_eqb}
@@ -31,7 +31,7 @@ returns-then-d-gt15 c =
 pub overflow_mul-n : goal.overflow_mul-n
 overflow_mul-n c =
     let grown : c.loop-i.n * 16 + c.digit_in-d.result < 2 ^ 64 =
-        let l = c.loop-i in
+    let l = c.loop-i in
     value_fits _ (suc l.i) (omega arith) (value_more l.n c.digit_in-d.result l.i l.invariant.1 (omega arith))
     in
     let l = c.loop-i in
@@ -40,7 +40,7 @@ overflow_mul-n c =
 pub overflow_add-n : goal.overflow_add-n
 overflow_add-n c =
     let grown : c.loop-i.n * 16 + c.digit_in-d.result < 2 ^ 64 =
-        let l = c.loop-i in
+    let l = c.loop-i in
     value_fits _ (suc l.i) (omega arith) (value_more l.n c.digit_in-d.result l.i l.invariant.1 (omega arith))
     in
     record { fits = grown }
@@ -48,7 +48,7 @@ overflow_add-n c =
 pub loop-i-preserved : goal.loop-i-preserved
 loop-i-preserved c =
     let read : let x = get_or c.args.digits.now c.loop-i.i 0 in (is_hex x ≡ true) × (c.digit_in-d.result ≡ digit_of x) =
-        let x = get_or c.args.digits.now c.loop-i.i 0 in
+    let x = get_or c.args.digits.now c.loop-i.i 0 in
     let d = is_digit x (rw c.digit_in-d.ensures at c.if-d-gt15.false) in
     (d.0, c.digit_in-d.ensures ∙ d.1)
     in

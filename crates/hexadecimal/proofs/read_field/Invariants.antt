@@ -1,15 +1,8 @@
 -- `read_field` meets its contract. The invariant: the digits read so far stand for n, and those left decide the rest.
-use mathlib.Core.Path.{◌≡◌, refl, sym, ap, ◌∙◌}
-use mathlib.Core.Bool.{true}
-use mathlib.Core.List.{[]}
-use Prim.Native.Nat.{suc, ◌+◌, ◌-◌, ◌*◌, ◌^◌, ◌≤◌, ◌<◌}
-use native.Mathlib.Numerals.{add-one}
-use native.Mathlib.Omega.{arith}
-use borrow.Author.Tests.{eq-eqb, ne_eqb}
-use lib.ListN.{length, get_or, drop, drop_of_length-le}
-use Rattle.definitions.specs.Line.{is_hex, digit_of, all_hex, hex_value}
-use Rattle.hexadecimal.specs.Field.{field_of}
-use Rattle.hexadecimal.proofs.HexDigits.{is_digit, no_digit, read_more, all_more, all_not, value_more, value_fits}
+use mathlib.Core.Path.{◌≡◌}
+use Prim.Native.Nat.{◌-◌, ◌^◌, ◌≤◌, ◌<◌}
+use lib.ListN.{drop}
+use Rattle.definitions.specs.Line.{all_hex, hex_value}
 use Rattle.hexadecimal.proofs.read_field.Given as goal
 
 abbrev pub invariant-loop-i : goal.invariant-loop-i
@@ -19,4 +12,3 @@ invariant-loop-i l =
 abbrev pub decreases-loop-i : goal.decreases-loop-i
 decreases-loop-i l =
     16 - l.i
-

@@ -1,5 +1,4 @@
 -- `upper_hex` meets its contract.
-use borrow.Author.Rules.{rules}
 use borrow.Author.Tests.{lt-ltb, le-ltb}
 use Rattle.hexadecimal.proofs.upper_hex.Goals as goal
 

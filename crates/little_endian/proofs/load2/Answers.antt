@@ -6,7 +6,6 @@ use native.Mathlib.Numerals.{add-one}
 use native.Mathlib.Omega.{arith}
 use lib.ListN.{get_or, drop}
 use lib.Seq.{drop-cons}
-use borrow.Author.Rules.{rules}
 use Rattle.little_endian.proofs.load2.Goals as goal
 
 pub overflow_cast-result : goal.overflow_cast-result

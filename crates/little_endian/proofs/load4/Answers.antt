@@ -1,7 +1,6 @@
 -- `load4` meets its contract: two halves are the number.
 use native.Mathlib.Omega.{arith}
 use Rattle.little_endian.proofs.Joined.{loaded_joined}
-use borrow.Author.Rules.{rules}
 use Rattle.little_endian.proofs.load4.Goals as goal
 
 pub returns : goal.returns

@@ -6,7 +6,6 @@ use native.Mathlib.Numerals.{add-one}
 use native.Mathlib.Omega.{arith}
 use lib.ListN.{length-set}
 use Rattle.little_endian.proofs.Joined.{stored_sets}
-use borrow.Author.Rules.{rules}
 use Rattle.little_endian.proofs.store2.Goals as goal
 
 pub bounds-bytes-at-2 : goal.bounds-bytes-at-2

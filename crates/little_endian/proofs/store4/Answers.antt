@@ -1,6 +1,5 @@
 -- `store4` meets its contract: two halves are the number.
 use Rattle.little_endian.proofs.Joined.{stored_joined}
-use borrow.Author.Rules.{rules}
 use Rattle.little_endian.proofs.store4.Goals as goal
 
 pub returns : goal.returns

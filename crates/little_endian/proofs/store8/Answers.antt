@@ -1,6 +1,5 @@
 -- `store8` meets its contract: two halves are the number.
 use Rattle.little_endian.proofs.Joined.{stored_joined}
-use borrow.Author.Rules.{rules}
 use Rattle.little_endian.proofs.store8.Goals as goal
 
 pub returns : goal.returns

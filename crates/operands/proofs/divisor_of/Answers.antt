@@ -4,7 +4,6 @@ use Rattle.operands.specs.Operand.{divisor_operand}
 use Rattle.operands.specs.declared.Divisor.TheVariants.{Unbounded}
 use Rattle.operands.specs.declared.Operand.{Operand}
 use Rattle.operands.proofs.Cases.{other_cases}
-use borrow.Author.Rules.{rules}
 use Rattle.operands.proofs.divisor_of.Goals as goal
 
 pub returns-in_default : goal.returns-in_default

@@ -5,7 +5,6 @@ use lib.IntN.{pos}
 use mir.Syntax.{w32}
 use mir.ValLaws.{to_z-of_z, to_z_pos}
 use Rattle.digits.proofs.Signed.{add_fits, add_is}
-use borrow.Author.Rules.{rules}
 use Rattle.operands.proofs.exponent_at.Goals as goal
 
 pub overflow_add-result-2 : goal.overflow_add-result-2

@@ -7,7 +7,7 @@ use lib.Count.{count_leading_zeros}
 use lib.IntN.{pos}
 use mir.Syntax.{w32}
 use mir.ValLaws.{to_z-of_z, to_z_pos}
-use Rattle.digits.proofs.Signed.{sub_fits, sub_is}
+use Rattle.digits.proofs.Signed.{sub_is}
 use Rattle.digits.proofs.Shift.{leading_under, shifted_small}
 use Rattle.operands.specs.Operand.{normal_of}
 use Rattle.operands.proofs.normalise.Goals as goal
@@ -20,7 +20,7 @@ pub returns : goal.returns
 unfolding normal_of
 returns c =
     let under : count_leading_zeros 64 c.args.significand < 64 =
-        leading_under 64 c.args.significand (pos_of_ne-zero c.if-significand-eq0.false) c.ranges.significand.fits
+    leading_under 64 c.args.significand (pos_of_ne-zero c.if-significand-eq0.false) c.ranges.significand.fits
     in
     let a = c.args.significand in
     simp (

@@ -1,7 +1,6 @@
 -- `power_of_two` meets its contract: no bit is shifted out.
 use native.Mathlib.Nat.{one-mul, mod-eq_of_lt}
 use lib.Pow.{pow-lt}
-use borrow.Author.Rules.{rules}
 use Rattle.operands.proofs.power_of_two.Goals as goal
 
 pub returns : goal.returns

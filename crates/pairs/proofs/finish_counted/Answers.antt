@@ -1,18 +1,17 @@
 -- `finish_counted` meets its contract: the gap decides which of the two laws holds, and whether anything is divided.
-use Rattle.std.proofs.Common.{◌≡◌, ◌^◌, ◌<◌, ◌-ℤ◌, nat_abs, ap, ◌∙◌, lt_of_lt_of_le, mod-lt, arith, pow_pos, w32, to_z, of_z, rules}
-use lib.Signed.{mag, nat_abs-le}
+use Rattle.std.proofs.Common.{◌≡◌, ◌-ℤ◌, nat_abs, ap, ◌∙◌, arith, w32, to_z, of_z}
 use mir.ValLaws.{to_z-of_z}
 use Rattle.digits.proofs.Signed.{small_back}
 use Rattle.division.specs.Divided.{divided_of}
 use Rattle.division.specs.declared.Divided.{Divided}
 use Rattle.pairs.specs.Pair.{settled_of, below_of}
-use Rattle.pairs.proofs.TwoOperands.{gap_small, below_pair, settled_pair, not_negative}
+use Rattle.pairs.proofs.TwoOperands.{below_pair, settled_pair}
 use Rattle.pairs.proofs.finish_counted.Goals as goal
 
 pub returns-then-d-lt0 : goal.returns-then-d-lt0
 returns-then-d-lt0 c =
     let gap_back : to_z w32 (of_z w32 c.args.d) ≡ c.args.x.exponent -ℤ c.args.y.exponent =
-        to_z-of_z w32 c.args.d c.ranges.d ∙ c.requires.2
+    to_z-of_z w32 c.args.d c.ranges.d ∙ c.requires.2
     in
     let a = c.args in
     let below_zero = rw gap_back at c.if-d-lt0.true in record {
@@ -23,10 +22,10 @@ returns-then-d-lt0 c =
 pub returns : goal.returns
 returns c =
     let gap_back : to_z w32 (of_z w32 c.args.d) ≡ c.args.x.exponent -ℤ c.args.y.exponent =
-        to_z-of_z w32 c.args.d c.ranges.d ∙ c.requires.2
+    to_z-of_z w32 c.args.d c.ranges.d ∙ c.requires.2
     in
     let exponent_back : to_z w32 (of_z w32 c.args.y.exponent) ≡ c.args.y.exponent =
-        small_back c.args.y.exponent (omega (arith, c.requires.1.small))
+    small_back c.args.y.exponent (omega (arith, c.requires.1.small))
     in
     let e = c.divide_counted-counted.ensures in
     let a = c.args in

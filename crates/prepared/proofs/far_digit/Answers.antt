@@ -1,9 +1,8 @@
 -- `far_digit` meets its contract: the product loses whole divisors, and its left-over is shifted.
-use Rattle.std.proofs.Common.{◌≡◌, ℕ, ◌+◌, ◌*◌, ◌/◌, ◌%◌, ◌^◌, ◌<◌, ◌≤◌, sym, ap, ◌∙◌, lt_of_lt_of_le, le_of_lt, mul_comm, mul-le-mul, arith, lit<, pow_pos, rules}
+use Rattle.std.proofs.Common.{◌≡◌, ℕ, ◌+◌, ◌*◌, ◌/◌, ◌%◌, ◌^◌, ◌<◌, sym, ap, ◌∙◌, lt_of_lt_of_le, mul_comm, arith, lit<, pow_pos}
 use native.Mathlib.Nat.{mul-add-mod_self_right}
 use Rattle.digits.proofs.Common.{mod_times}
 use Rattle.division.proofs.Digits.{shifted_le}
-use Rattle.prepared.specs.Prepared.{Shows}
 use Rattle.prepared.proofs.Shown.{shows_same}
 use Rattle.prepared.proofs.far_digit.Goals as goal
 
@@ -20,13 +19,13 @@ rest_is_go n w r l e f = omega arith
 pub digit-requires : goal.digit-requires
 digit-requires c =
     let rest : ℕ =
-        c.digit-first.result.remainder + c.low-lower.result % 2 ^ 52
+    c.digit-first.result.remainder + c.low-lower.result % 2 ^ 52
     in
     let divisor : ℕ =
-        c.args.d.significand
+    c.args.d.significand
     in
     let rest_small : rest < 2 ^ 55 =
-        rest_small_go c.digit-first.result.remainder divisor c.low-lower.result c.digit-first.ensures.1 c.requires.0.word
+    rest_small_go c.digit-first.result.remainder divisor c.low-lower.result c.digit-first.ensures.1 c.requires.0.word
     in
     let f = c.requires.0 in
     let l = rest_small in
@@ -40,23 +39,23 @@ times-same a n p m e =
 pub returns : goal.returns
 returns c =
     let divisor : ℕ =
-        c.args.d.significand
+    c.args.d.significand
     in
     let rest : ℕ =
-        c.digit-first.result.remainder + c.low-lower.result % 2 ^ 52
+    c.digit-first.result.remainder + c.low-lower.result % 2 ^ 52
     in
     let product : ℕ =
-        c.args.a * c.args.power
+    c.args.a * c.args.power
     in
     let upper_is : c.high.result * 2 ^ 12 + c.low-lower.result / 2 ^ 52 ≡ product / 2 ^ 52 =
-        halves product c.high.result c.low-lower.result c.high.ensures c.low-lower.ensures
+    halves product c.high.result c.low-lower.result c.high.ensures c.low-lower.ensures
     in
     let rest_is : c.digit-first.result.quotient * divisor + rest ≡ product =
-        rest_is_go product (c.digit-first.result.quotient * divisor) c.digit-first.result.remainder c.low-lower.result
+    rest_is_go product (c.digit-first.result.quotient * divisor) c.digit-first.result.remainder c.low-lower.result
     (c.digit-first.ensures.0 ∙ ap (λ (k : ℕ). k * 2 ^ 52) upper_is) c.low-lower.ensures
     in
     let rest_same : rest % divisor ≡ product % divisor =
-        sym (mul-add-mod_self_right c.digit-first.result.quotient divisor rest) ∙ ap (λ (k : ℕ). k % divisor) rest_is
+    sym (mul-add-mod_self_right c.digit-first.result.quotient divisor rest) ∙ ap (λ (k : ℕ). k % divisor) rest_is
     in
     let m = divisor in
     let some : 0 < m = lt_of_lt_of_le (pow_pos 52) c.requires.0.top in (

@@ -1,5 +1,5 @@
 -- `prepare` meets its contract.
-use Rattle.std.proofs.Common.{◌≡◌, ℕ, ◌+◌, ◌-◌, ◌*◌, ◌/◌, ◌%◌, ◌^◌, ◌<◌, ◌≤◌, refl, ap, ◌∙◌, arith, rules}
+use Rattle.std.proofs.Common.{◌≡◌, ℕ, ◌+◌, ◌-◌, ◌*◌, ◌/◌, ◌%◌, ◌^◌, ◌<◌, ◌≤◌, refl, arith}
 use Rattle.reciprocals.specs.Reciprocal.{reciprocal_of}
 use Rattle.reciprocals.proofs.Quotients.{inverse, inverse_left}
 use Rattle.prepared.proofs.Halved.{halved_below, halved_above}

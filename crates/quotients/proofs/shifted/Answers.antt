@@ -3,7 +3,6 @@ use mathlib.Core.Path.{sym}
 use Prim.Native.Nat.{◌^◌}
 use native.Mathlib.Nat.{mod-eq-zero_of_dvd, dvd_trans, dvd-mul_left}
 use Rattle.digits.proofs.Digits.{pow_dvd}
-use borrow.Author.Rules.{rules}
 use Rattle.quotients.proofs.shifted.Goals as goal
 
 -- `shifted` meets its contract: 32 places or more leave no low bit. Assumes nothing.

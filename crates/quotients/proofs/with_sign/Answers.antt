@@ -7,7 +7,6 @@ use mir.Syntax.{w32}
 use mir.Val.{SFits, to_z, of_z}
 use mir.ValLaws.{to_z_pos, to_z-of_z}
 use Rattle.definitions.specs.Remainder.{quotient_modulus}
-use borrow.Author.Rules.{rules}
 use Rattle.quotients.proofs.with_sign.Goals as goal
 
 -- `with_sign` meets its contract: a magnitude below 2^31 and its negation fit an i32. Assumes nothing.

@@ -1,5 +1,5 @@
 -- `divide_word` meets its contract.
-use Rattle.std.proofs.Common.{◌≡◌, ℕ, ◌+◌, ◌*◌, ◌/◌, ◌%◌, ◌^◌, ap, ◌∙◌, add-zero, pow_pos, rules}
+use Rattle.std.proofs.Common.{◌≡◌, ℕ, ◌+◌, ◌*◌, ◌/◌, ◌%◌, ◌^◌, ap, ◌∙◌, add-zero, pow_pos}
 use Rattle.reciprocals.proofs.Found.{plain_fits, bare_many, bare_few}
 use Rattle.reciprocals.proofs.divide_word.Goals as goal
 
@@ -11,7 +11,7 @@ overflow_add-whole c =
 pub returns-then-fraction-rest : goal.returns-then-fraction-rest
 returns-then-fraction-rest c =
     let next_is : c.wrapping_add_u64-next.result ≡ (c.args.hi * c.args.v / 2 ^ 64 + c.args.hi + 1) % 2 ^ 64 =
-        c.wrapping_add_u64-next.ensures.value ∙ ap (λ (m : ℕ). (m + c.args.hi + 1) % 2 ^ 64) c.high.ensures
+    c.wrapping_add_u64-next.ensures.value ∙ ap (λ (m : ℕ). (m + c.args.hi + 1) % 2 ^ 64) c.high.ensures
     in
     let a = c.args in
     let f = rw c.low-fraction.ensures at c.if-fraction-rest.true in
@@ -22,7 +22,7 @@ returns-then-fraction-rest c =
 pub returns-else-fraction-rest : goal.returns-else-fraction-rest
 returns-else-fraction-rest c =
     let next_is : c.wrapping_add_u64-next.result ≡ (c.args.hi * c.args.v / 2 ^ 64 + c.args.hi + 1) % 2 ^ 64 =
-        c.wrapping_add_u64-next.ensures.value ∙ ap (λ (m : ℕ). (m + c.args.hi + 1) % 2 ^ 64) c.high.ensures
+    c.wrapping_add_u64-next.ensures.value ∙ ap (λ (m : ℕ). (m + c.args.hi + 1) % 2 ^ 64) c.high.ensures
     in
     let a = c.args in
     let f = rw c.low-fraction.ensures at c.if-fraction-rest.false in

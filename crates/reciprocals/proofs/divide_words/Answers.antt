@@ -1,5 +1,5 @@
 -- `divide_words` meets its contract.
-use Rattle.std.proofs.Common.{◌≡◌, ℕ, ◌+◌, ◌*◌, ◌%◌, ◌^◌, sym, ap, ◌∙◌, inl, inr, ⊎_elim, le_refl, pow_pos, rules}
+use Rattle.std.proofs.Common.{◌≡◌, ℕ, ◌+◌, ◌*◌, ◌%◌, ◌^◌, sym, ap, ◌∙◌, inl, inr, le_refl, pow_pos}
 use lib.Arith.{digits_mod}
 use Rattle.reciprocals.proofs.Found.{found, carried_up, plain_fits, carry_fits}
 use Rattle.reciprocals.proofs.divide_words.Goals.{else-fraction-lo, then-fraction-lo}
@@ -13,7 +13,7 @@ overflow_add-whole c =
 pub overflow_add-whole-then-fraction-lo : goal.overflow_add-whole-then-fraction-lo
 overflow_add-whole-then-fraction-lo c =
     let fraction_is : c.wrapping_add_u64-fraction.result ≡ (c.args.hi * c.args.v % 2 ^ 64 + c.args.lo) % 2 ^ 64 =
-        c.wrapping_add_u64-fraction.ensures.value ∙ ap (λ (m : ℕ). (m + c.args.lo) % 2 ^ 64) c.low.ensures
+    c.wrapping_add_u64-fraction.ensures.value ∙ ap (λ (m : ℕ). (m + c.args.lo) % 2 ^ 64) c.low.ensures
     in
     let a = c.args in
     record {
@@ -25,7 +25,7 @@ overflow_add-whole-then-fraction-lo c =
 pub returns : goal.returns
 returns c =
     let fraction_is : c.wrapping_add_u64-fraction.result ≡ (c.args.hi * c.args.v % 2 ^ 64 + c.args.lo) % 2 ^ 64 =
-        c.wrapping_add_u64-fraction.ensures.value ∙ ap (λ (m : ℕ). (m + c.args.lo) % 2 ^ 64) c.low.ensures
+    c.wrapping_add_u64-fraction.ensures.value ∙ ap (λ (m : ℕ). (m + c.args.lo) % 2 ^ 64) c.low.ensures
     in
     let a = c.args in
     let f = c.wrapping_add_u64-fraction.result in
@@ -33,8 +33,10 @@ returns c =
     let r = c.wrapping_sub_u64-rest in
     let sum =
     carried_up a.hi a.v a.lo f (fraction_is) c.ranges.lo.fits k.whole
-    (elim k.branch [ then-fraction-lo w ↦ inl (w.if-fraction-lo.true, w.whole-is ∙ rw c.high.ensures)
-    | else-fraction-lo w ↦ inr (w.if-fraction-lo.false, w.whole-is ∙ rw c.high.ensures) ])
+    (elim k.branch [
+      | then-fraction-lo w ↦ inl (w.if-fraction-lo.true, w.whole-is ∙ rw c.high.ensures)
+      | else-fraction-lo w ↦ inr (w.if-fraction-lo.false, w.whole-is ∙ rw c.high.ensures)
+    ])
     in
     c.corrected.ensures (a.hi * 2 ^ 64 + a.lo)
     (found (2 ^ 64) a.d a.v a.hi a.lo k.whole f c.requires.1 c.ranges.d.fits (pow_pos 64) (le_refl (2 ^ 64)) c.requires.2 c.requires.0 c.ranges.lo.fits sum

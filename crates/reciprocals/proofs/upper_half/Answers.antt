@@ -1,6 +1,5 @@
 -- `upper_half` meets its contract.
-use Rattle.std.proofs.Common.{◌%◌, ◌^◌, arith, rules}
-use Rattle.reciprocals.proofs.Upper.{rest_small, taken_small, positive, upper_lowered, upper_kept}
+use Rattle.reciprocals.proofs.Upper.{upper_lowered, upper_kept}
 use Rattle.reciprocals.proofs.upper_half.Goals as goal
 
 pub returns-then-left-taken : goal.returns-then-left-taken

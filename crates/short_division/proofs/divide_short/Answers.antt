@@ -1,10 +1,9 @@
 -- `divide_short` meets its contract. The loop's invariant: the division of the places that are passed.
 use mathlib.Core.Path.{◌≡◌, ap, ◌∙◌}
-use Prim.Native.Nat.{ℕ, ◌+◌, ◌-◌, ◌*◌, ◌/◌, ◌%◌, ◌≤◌}
+use Prim.Native.Nat.{◌+◌, ◌-◌, ◌*◌, ◌/◌, ◌%◌}
 use native.Mathlib.Omega.{arith}
 use Rattle.division.specs.Divided.{divided_of}
-use Rattle.short_division.proofs.Turns.{Reached, first_turn, next_turn}
-use borrow.Author.Rules.{rules}
+use Rattle.short_division.proofs.Turns.{first_turn, next_turn}
 use Rattle.short_division.proofs.divide_short.Goals as goal
 
 pub loop-turns-init : goal.loop-turns-init

@@ -1,10 +1,6 @@
 -- `divide_short` meets its contract. The loop's invariant: the division of the places that are passed.
-use mathlib.Core.Path.{◌≡◌, ap, ◌∙◌}
-use Prim.Native.Nat.{ℕ, ◌+◌, ◌-◌, ◌*◌, ◌/◌, ◌%◌, ◌≤◌}
-use native.Mathlib.Omega.{arith}
-use Rattle.division.specs.Divided.{divided_of}
-use Rattle.short_division.proofs.Turns.{Reached, first_turn, next_turn}
-use borrow.Author.Rules.{rules}
+use Prim.Native.Nat.{◌-◌, ◌*◌, ◌≤◌}
+use Rattle.short_division.proofs.Turns.{Reached}
 use Rattle.short_division.proofs.divide_short.Given as goal
 
 abbrev pub invariant-loop-turns : goal.invariant-loop-turns
@@ -14,4 +10,3 @@ invariant-loop-turns l =
 abbrev pub decreases-loop-turns : goal.decreases-loop-turns
 decreases-loop-turns l =
     l.turns
-

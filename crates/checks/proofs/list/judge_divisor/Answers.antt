@@ -1,5 +1,4 @@
 -- `judge_divisor` meets its contract.
-use borrow.Author.Rules.{rules}
 use Rattle.checks.proofs.Judged.{divisor_number_lem}
 use Rattle.checks.proofs.list.judge_divisor.Goals as goal
 

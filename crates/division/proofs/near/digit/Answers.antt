@@ -1,5 +1,5 @@
 -- `digit` meets its contract.
-use Rattle.std.proofs.Common.{◌≡◌, ℕ, ◌+◌, ◌-◌, ◌*◌, ◌/◌, ◌%◌, ◌^◌, ◌<◌, ◌≤◌, refl, ap, ◌∙◌, add-sub_of_le, arith, pow_pos, rules}
+use Rattle.std.proofs.Common.{◌≡◌, ℕ, ◌+◌, ◌-◌, ◌*◌, ◌/◌, ◌%◌, ◌^◌, ◌<◌, ◌≤◌, refl, ap, ◌∙◌, add-sub_of_le, arith, pow_pos}
 use Rattle.division.proofs.Digits.{near_le, near_lt, scaled, unwrapped}
 use Rattle.division.proofs.near.digit.Goals as goal
 

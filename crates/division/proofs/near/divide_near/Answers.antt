@@ -1,9 +1,9 @@
 -- `divide_near` meets its contract.
-use Rattle.std.proofs.Common.{◌≡◌, ℕ, ◌+◌, ◌-◌, ◌*◌, ◌/◌, ◌%◌, ◌^◌, ◌<◌, ◌≤◌, ap, ◌∙◌, ⊎_elim, add-sub_of_le, arith, lit<, rules}
+use Rattle.std.proofs.Common.{◌≡◌, ℕ, ◌+◌, ◌-◌, ◌*◌, ◌/◌, ◌%◌, ◌^◌, ◌<◌, ◌≤◌, ap, ◌∙◌, add-sub_of_le, arith, lit<}
 use Rattle.reciprocals.specs.Reciprocal.{upper_of}
 use Rattle.reciprocals.specs.declared.Quotient.{Quotient}
 use Rattle.division.proofs.Digits.{shifted_le, cut_below, cut_above, joined_right, joined_more}
-use Rattle.reciprocals.proofs.Upper.{upper_small, upper_is}
+use Rattle.reciprocals.proofs.Upper.{upper_is}
 use Rattle.division.proofs.near.divide_near.Goals.{else-places-lt32, then-places-lt32}
 use Rattle.division.proofs.near.divide_near.Goals as goal
 
@@ -22,14 +22,16 @@ short n h = omega arith
 pub digit-first-requires : goal.digit-first-requires
 digit-first-requires c =
     let upper_quotient : c.upper_half-x.result.quotient ≡ (2 ^ 96 - 1 - 2 ^ 32 * c.args.b) / c.args.b =
-        ap (λ (q : Quotient). q.quotient) c.upper_half-x.ensures
+    ap (λ (q : Quotient). q.quotient) c.upper_half-x.ensures
     in
     let x_is : c.upper_half-x.result.quotient + 2 ^ 32 ≡ 2 ^ 32 + upper_of c.args.b =
-        ap (λ (n : ℕ). n + 2 ^ 32) upper_quotient ∙ upper_is c.args.b c.requires.0 c.ranges.b.fits
+    ap (λ (n : ℕ). n + 2 ^ 32) upper_quotient ∙ upper_is c.args.b c.requires.0 c.ranges.b.fits
     in
     let upper_le : (c.if-places-lt32.upper ≤ 32) × (c.if-places-lt32.upper ≤ c.args.places) × (c.args.places - c.if-places-lt32.upper ≤ 31) =
-        let p = c.requires.3 in elim c.if-places-lt32.branch [ then-places-lt32 w ↦ parts w.if-places-lt32.true w.upper-is p
-    | else-places-lt32 w ↦ rests w.if-places-lt32.false w.upper-is p ]
+    let p = c.requires.3 in elim c.if-places-lt32.branch [
+      | then-places-lt32 w ↦ parts w.if-places-lt32.true w.upper-is p
+      | else-places-lt32 w ↦ rests w.if-places-lt32.false w.upper-is p
+    ]
     in
     let a = c.args in
     let is = ends a.b c.requires.2 in (
@@ -51,14 +53,16 @@ scaled-word r h = omega arith
 pub digit-last-requires : goal.digit-last-requires
 digit-last-requires c =
     let upper_quotient : c.upper_half-x.result.quotient ≡ (2 ^ 96 - 1 - 2 ^ 32 * c.args.b) / c.args.b =
-        ap (λ (q : Quotient). q.quotient) c.upper_half-x.ensures
+    ap (λ (q : Quotient). q.quotient) c.upper_half-x.ensures
     in
     let x_is : c.upper_half-x.result.quotient + 2 ^ 32 ≡ 2 ^ 32 + upper_of c.args.b =
-        ap (λ (n : ℕ). n + 2 ^ 32) upper_quotient ∙ upper_is c.args.b c.requires.0 c.ranges.b.fits
+    ap (λ (n : ℕ). n + 2 ^ 32) upper_quotient ∙ upper_is c.args.b c.requires.0 c.ranges.b.fits
     in
     let upper_le : (c.if-places-lt32.upper ≤ 32) × (c.if-places-lt32.upper ≤ c.args.places) × (c.args.places - c.if-places-lt32.upper ≤ 31) =
-        let p = c.requires.3 in elim c.if-places-lt32.branch [ then-places-lt32 w ↦ parts w.if-places-lt32.true w.upper-is p
-    | else-places-lt32 w ↦ rests w.if-places-lt32.false w.upper-is p ]
+    let p = c.requires.3 in elim c.if-places-lt32.branch [
+      | then-places-lt32 w ↦ parts w.if-places-lt32.true w.upper-is p
+      | else-places-lt32 w ↦ rests w.if-places-lt32.false w.upper-is p
+    ]
     in
     let a = c.args in
     let is = ends a.b c.requires.2 in
@@ -76,8 +80,10 @@ digit-last-requires c =
 pub returns-then-m-rest : goal.returns-then-m-rest
 returns-then-m-rest c =
     let upper_le : (c.if-places-lt32.upper ≤ 32) × (c.if-places-lt32.upper ≤ c.args.places) × (c.args.places - c.if-places-lt32.upper ≤ 31) =
-        let p = c.requires.3 in elim c.if-places-lt32.branch [ then-places-lt32 w ↦ parts w.if-places-lt32.true w.upper-is p
-    | else-places-lt32 w ↦ rests w.if-places-lt32.false w.upper-is p ]
+    let p = c.requires.3 in elim c.if-places-lt32.branch [
+      | then-places-lt32 w ↦ parts w.if-places-lt32.true w.upper-is p
+      | else-places-lt32 w ↦ rests w.if-places-lt32.false w.upper-is p
+    ]
     in
     let a = c.args in
     rw (← add-sub_of_le upper_le.1)
@@ -88,8 +94,10 @@ returns-then-m-rest c =
 pub returns-else-m-rest : goal.returns-else-m-rest
 returns-else-m-rest c =
     let upper_le : (c.if-places-lt32.upper ≤ 32) × (c.if-places-lt32.upper ≤ c.args.places) × (c.args.places - c.if-places-lt32.upper ≤ 31) =
-        let p = c.requires.3 in elim c.if-places-lt32.branch [ then-places-lt32 w ↦ parts w.if-places-lt32.true w.upper-is p
-    | else-places-lt32 w ↦ rests w.if-places-lt32.false w.upper-is p ]
+    let p = c.requires.3 in elim c.if-places-lt32.branch [
+      | then-places-lt32 w ↦ parts w.if-places-lt32.true w.upper-is p
+      | else-places-lt32 w ↦ rests w.if-places-lt32.false w.upper-is p
+    ]
     in
     let a = c.args in
     rw (← add-sub_of_le upper_le.1)

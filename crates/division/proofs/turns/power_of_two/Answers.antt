@@ -1,8 +1,7 @@
 -- `power_of_two` meets its contract. The loop's invariant: the power of the exponent's digits that are passed.
-use Rattle.std.proofs.Common.{◌≡◌, ℕ, ◌+◌, ◌-◌, ◌*◌, ◌/◌, ◌%◌, ◌^◌, ◌<◌, ◌≤◌, ap, ◌∙◌, ⊎_elim, le_trans, lt_of_lt_of_le, lt_of_le_of_lt, le_of_lt, mod-lt, div-one, arith, pow_pos, pow_mono}
+use Rattle.std.proofs.Common.{◌≡◌, ℕ, ◌+◌, ◌-◌, ◌*◌, ◌/◌, ◌%◌, ◌^◌, ◌<◌, ◌≤◌, ap, ◌∙◌, le_trans, lt_of_lt_of_le, lt_of_le_of_lt, le_of_lt, mod-lt, div-one, arith, pow_pos, pow_mono}
 use lib.Count.{count_leading_zeros}
 use lib.Pow.{shr_le}
-use Rattle.division.specs.Divisions.{squarings_of}
 use Rattle.division.proofs.Squares.{zeros_few, upper_six, squarings_are, squarings_few, start_power, digit_zero, digit_one}
 use Rattle.division.proofs.turns.power_of_two.Goals.{else-e-left-eq0, then-e-left-eq0}
 use Rattle.division.proofs.turns.power_of_two.Goals as goal
@@ -30,7 +29,7 @@ multiplied-square-requires c = (c.loop-left.invariant.1, c.requires.1, c.require
 pub overflow_shr-e : goal.overflow_shr-e
 overflow_shr-e c =
     let few : c.loop-left.left + c.loop-left.divisions ≤ 26 =
-        squarings_few c.loop-left.invariant.0 c.ranges.e.fits
+    squarings_few c.loop-left.invariant.0 c.ranges.e.fits
     in
     omega (arith, few)
 
@@ -40,7 +39,7 @@ doubled-power-requires c = rw c.multiplied-square.ensures (mod-lt _ (lt_of_lt_of
 pub overflow_add-divisions : goal.overflow_add-divisions
 overflow_add-divisions c =
     let few : c.loop-left.left + c.loop-left.divisions ≤ 26 =
-        squarings_few c.loop-left.invariant.0 c.ranges.e.fits
+    squarings_few c.loop-left.invariant.0 c.ranges.e.fits
     in
     record { fits = omega (arith, few) }
 
@@ -54,10 +53,14 @@ loop-left-preserved c =
     let zero = digit_zero e l.left b l.power m.result (omega arith) l.invariant.2 m.ensures in
     let one = digit_one e l.left b l.power m.result (omega arith) l.invariant.2 m.ensures in (
       omega (arith, l.invariant.0),
-      elim c.if-e-left-eq0.branch [ then-e-left-eq0 w ↦ reduced (l.power * l.power) some (w.power-is ∙ m.ensures)
-    | else-e-left-eq0 w ↦ reduced (m.result * 2) some (w.power-is ∙ w.doubled-power.ensures) ],
-      elim c.if-e-left-eq0.branch [ then-e-left-eq0 w ↦ rw w.power-is (zero w.if-e-left-eq0.true)
-    | else-e-left-eq0 w ↦ one w.if-e-left-eq0.false c.if-e-left-eq0.power (w.power-is ∙ w.doubled-power.ensures) ],
+      elim c.if-e-left-eq0.branch [
+        | then-e-left-eq0 w ↦ reduced (l.power * l.power) some (w.power-is ∙ m.ensures)
+        | else-e-left-eq0 w ↦ reduced (m.result * 2) some (w.power-is ∙ w.doubled-power.ensures)
+      ],
+      elim c.if-e-left-eq0.branch [
+        | then-e-left-eq0 w ↦ rw w.power-is (zero w.if-e-left-eq0.true)
+        | else-e-left-eq0 w ↦ one w.if-e-left-eq0.false c.if-e-left-eq0.power (w.power-is ∙ w.doubled-power.ensures)
+      ],
     )
   where
     reduced : {r b : ℕ} → (n : ℕ) → 0 < b → r ≡ n % b → r ≤ b

@@ -1,6 +1,5 @@
 -- `extend` meets its contract: the first n powers are in the table.
-use Rattle.std.proofs.Common.{◌-◌, ◌≤◌, arith, length-set}
-use Rattle.prepared.specs.Prepared.{Powers}
+use Rattle.std.proofs.Common.{◌-◌, arith, length-set}
 use Rattle.prepared.proofs.Kept.{stored}
 use Rattle.prepared.proofs.powers.extend.Goals as goal
 

@@ -1,7 +1,6 @@
 -- `extend` meets its contract: the first n powers are in the table.
-use Rattle.std.proofs.Common.{◌-◌, ◌≤◌, arith, length-set}
+use Rattle.std.proofs.Common.{◌-◌, ◌≤◌}
 use Rattle.prepared.specs.Prepared.{Powers}
-use Rattle.prepared.proofs.Kept.{stored}
 use Rattle.prepared.proofs.powers.extend.Given as goal
 
 abbrev pub invariant-loop-n : goal.invariant-loop-n
@@ -11,4 +10,3 @@ invariant-loop-n l =
 abbrev pub decreases-loop-n : goal.decreases-loop-n
 decreases-loop-n l =
     36 - l.n
-

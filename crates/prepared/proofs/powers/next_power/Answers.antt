@@ -1,7 +1,6 @@
 -- `next_power` meets its contract.
-use Rattle.std.proofs.Common.{◌≡◌, ℕ, ◌*◌, ◌%◌, ◌^◌, sym, ap, ◌∙◌, arith, lit<}
+use Rattle.std.proofs.Common.{ℕ, ◌%◌, sym, ap, ◌∙◌}
 use native.Mathlib.Nat.{mul-add-mod_self_right}
-use Rattle.division.proofs.Digits.{shifted_le}
 use Rattle.prepared.proofs.powers.next_power.Goals as goal
 
 pub returns : goal.returns

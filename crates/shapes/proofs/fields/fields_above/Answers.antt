@@ -1,12 +1,10 @@
 -- `fields_above` meets its contract: what lies above the largest field has the sign.
-use mathlib.Core.Path.{◌≡◌, sym, ◌∙◌}
-use Prim.Native.Nat.{◌+◌, ◌-◌, ◌%◌}
-use native.Mathlib.Nat.{mod-eq-sub-mod, mod-eq_of_lt}
+use Prim.Native.Nat.{◌+◌}
+use native.Mathlib.Nat.{mod-eq_of_lt}
 use native.Mathlib.Omega.{arith}
-use borrow.Author.Tests.{lt-ltb, le-ltb}
+use borrow.Author.Tests.{le-ltb}
 use Rattle.definitions.specs.Format.{top_field}
 use Rattle.shapes.specs.Shape.{format_of}
-use borrow.Author.Rules.{rules}
 use Rattle.shapes.proofs.fields.fields_above.Goals as goal
 
 pub returns-else-top-above : goal.returns-else-top-above

@@ -1,12 +1,9 @@
 -- `fields_of` meets its contract: the words hold the fields as the layout says.
 use mathlib.Core.Path.{ap, ◌∙◌}
 use Prim.Native.Nat.{ℕ, ◌/◌, ◌%◌}
-use native.Mathlib.Omega.{arith}
 use Rattle.definitions.specs.Format.{top_field}
 use Rattle.shapes.specs.Shape.{format_of, fields_above}
-use Rattle.shapes.proofs.Weights.{leading_pos}
-use Rattle.shapes.proofs.Words.{hidden_above, hidden_fields, explicit_above, explicit_fields}
-use borrow.Author.Rules.{rules}
+use Rattle.shapes.proofs.Words.{hidden_above, hidden_fields}
 use Rattle.shapes.proofs.fields.fields_of.Goals as goal
 
 pub fields_above-requires : goal.fields_above-requires
