@@ -17,7 +17,6 @@ use Rattle.difference.proofs.Halves.{opposite_stands, opposite_difference}
 use Rattle.difference.proofs.values.subtract_values.Goals as goal
 use Rattle.difference.proofs.values.subtract_values.Goals.{Start}
 
--- `subtract_values` meets its contract: the value of the higher place goes first.
 module _ (s : Start) where
   abbrev f : Format
   f = format_of s.args.shape

@@ -19,7 +19,6 @@ use Rattle.powers.proofs.Scaled.{place, scaled_infinite, scaled_exact, scaled_ro
 use Rattle.powers.proofs.value.scale_value.Goals as goal
 use Rattle.powers.proofs.value.scale_value.Goals.{Start}
 
--- `scale_value` meets its contract: the places that it counts are those of the definition's one rounding. Assumes nothing.
 -- the format and the value that the code is handed
 module _ (s : Start) where
   abbrev f : Format

@@ -25,7 +25,6 @@ use Rattle.sums.proofs.Limited.{limited_zero, limited_is, limit_other, value_nea
 use Rattle.sums.proofs.rounded.rounded_value.Goals as goal
 use Rattle.sums.proofs.rounded.rounded_value.Goals.{Else-word-eq0}
 
--- `rounded_value` meets its contract: the leading one is brought to bit 63, and what lies below the precision is rounded off.
 module _ (c : Else-word-eq0) where
   abbrev f : Format
   f = format_of c.args.shape
