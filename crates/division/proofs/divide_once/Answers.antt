@@ -3,7 +3,6 @@ use Rattle.std.proofs.Common.{lt_of_lt_of_le, pow_pos}
 use Rattle.division.proofs.Zeros.{under_word, short_div, short_mod, short_word}
 use Rattle.division.proofs.divide_once.Goals as goal
 
--- `divide_once` meets its contract. Assumes nothing.
 pub overflow_shr-divisor : goal.overflow_shr-divisor
 overflow_shr-divisor c = under_word c.args.b c.args.places c.requires.1 (lt_of_lt_of_le (pow_pos 63) c.requires.0) c.ranges.b.fits
 

@@ -3,7 +3,6 @@ use mathlib.Core.Path.{sym, ◌∙◌}
 use Rattle.floats.proofs.Nan.{number, read_nan, zero_by_zero}
 use Rattle.floats.proofs.float_of.Goals as goal
 
--- `float_of` meets its contract. Assumes nothing.
 pub float_from_bits-result : goal.float_from_bits-result
 float_from_bits-result c = number c.args.pattern c.if-pattern-le9218868437227405312.true
 

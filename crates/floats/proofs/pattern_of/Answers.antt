@@ -4,7 +4,6 @@ use lib.Ieee.{binary64, to_bits}
 use Rattle.floats.proofs.Nan.{not_nan, only_nan, house}
 use Rattle.floats.proofs.pattern_of.Goals as goal
 
--- `pattern_of` meets its contract. Assumes nothing.
 pub float_to_bits-result : goal.float_to_bits-result
 float_to_bits-result c = not_nan c.args.x c.if-x.false
 

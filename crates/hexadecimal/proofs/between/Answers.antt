@@ -2,7 +2,6 @@
 use borrow.Author.Tests.{le-leb, lt-leb}
 use Rattle.hexadecimal.proofs.between.Goals as goal
 
--- `between` meets its contract. Assumes nothing.
 pub returns-then-low-c : goal.returns-then-low-c
 returns-then-low-c c = simp (le-leb _ _ c.if-low-c.true)
 

@@ -2,7 +2,6 @@
 use borrow.Author.Tests.{eq-eqb, ne_eqb}
 use Rattle.interface.proofs.kind_of.Goals as goal
 
--- `kind_of` meets its contract: its test is the definition's. Assumes nothing.
 pub returns-then-kind-eq0 : goal.returns-then-kind-eq0
 returns-then-kind-eq0 c = simp (eq-eqb _ _ c.if-kind-eq0.true)
 

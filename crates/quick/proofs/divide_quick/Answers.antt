@@ -4,7 +4,6 @@ use Rattle.division.proofs.Zeros.{trailing_mod}
 use Rattle.division.proofs.Count.{counted_once}
 use Rattle.quick.proofs.divide_quick.Goals as goal
 
--- `divide_quick` meets its contract: it is the engine's first case, or the engine. Assumes nothing.
 pub divide_once-requires : goal.divide_once-requires
 divide_once-requires c = (c.requires, trailing_mod c.args.b c.args.places c.if-places-b.true)
 

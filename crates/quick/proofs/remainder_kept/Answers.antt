@@ -7,7 +7,6 @@ use Rattle.quick.proofs.Fields.{below, dividend_below, divisor_above}
 use Rattle.quick.proofs.Operands.{kept_divisions}
 use Rattle.quick.proofs.remainder_kept.Goals as goal
 
--- `remainder_kept` meets its contract. Assumes nothing.
 pub returns : goal.returns
 returns c =
     let a = c.args in

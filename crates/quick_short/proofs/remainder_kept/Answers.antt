@@ -4,7 +4,6 @@ use Rattle.quick.proofs.Below.{kept_answer}
 use Rattle.quick_short.proofs.Fields.{below}
 use Rattle.quick_short.proofs.remainder_kept.Goals as goal
 
--- `remainder_kept` meets its contract. Assumes nothing.
 pub returns : goal.returns
 returns c =
     let a = c.args in

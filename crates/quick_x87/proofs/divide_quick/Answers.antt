@@ -3,6 +3,5 @@ use Rattle.division.proofs.Zeros.{trailing_mod}
 use borrow.Author.Rules.{rules}
 use Rattle.quick_x87.proofs.divide_quick.Goals as goal
 
--- `divide_quick` meets its contract: each case is one of the engine's. Assumes nothing.
 pub divide_once-requires : goal.divide_once-requires
 divide_once-requires c = (c.requires, trailing_mod c.args.b c.args.places c.if-places-b.true)

@@ -6,7 +6,6 @@ use Rattle.quick.proofs.Below.{kept_answer}
 use Rattle.quick_x87.proofs.Parts.{both}
 use Rattle.quick_x87.proofs.remainder_kept.Goals as goal
 
--- `remainder_kept` meets its contract. Assumes nothing.
 pub returns : goal.returns
 returns c =
     let a = c.args in

@@ -5,7 +5,6 @@ use native.Mathlib.Nat.{mod-eq-zero_of_dvd, dvd_trans, dvd-mul_left}
 use Rattle.digits.proofs.Digits.{pow_dvd}
 use Rattle.quotients.proofs.shifted.Goals as goal
 
--- `shifted` meets its contract: 32 places or more leave no low bit. Assumes nothing.
 pub returns-then-places-ge32 : goal.returns-then-places-ge32
 returns-then-places-ge32 c =
     let a = c.args in

@@ -9,7 +9,6 @@ use mir.ValLaws.{to_z_pos, to_z-of_z}
 use Rattle.definitions.specs.Remainder.{quotient_modulus}
 use Rattle.quotients.proofs.with_sign.Goals as goal
 
--- `with_sign` meets its contract: a magnitude below 2^31 and its negation fit an i32. Assumes nothing.
 -- bits that are told are read as themselves
 reads : (q : ℕ) → q < quotient_modulus → to_z w32 q ≡ pos q
 reads q h = to_z_pos w32 q (omega arith)

@@ -4,7 +4,6 @@ use native.Mathlib.Omega.{arith}
 use borrow.Author.Tests.{eq-eqb, ne_eqb}
 use Rattle.rounding.proofs.rounded.Goals as goal
 
--- `rounded` meets its contract: each return is the case that its tests led to. Assumes nothing.
 pub returns-then-remainder-eq0 : goal.returns-then-remainder-eq0
 returns-then-remainder-eq0 c = simp (eq-eqb _ _ c.if-remainder-eq0.true)
 

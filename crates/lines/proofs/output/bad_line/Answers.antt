@@ -3,7 +3,6 @@ use mathlib.Core.Path.{refl}
 use Rattle.lines.specs.Output.{output_of}
 use Rattle.lines.proofs.output.bad_line.Goals as goal
 
--- `bad_line` meets its contract. Assumes nothing.
 pub returns : goal.returns
 unfolding output_of
 returns c = refl

@@ -9,7 +9,6 @@ use Rattle.remainder.proofs.OfPatterns.{word_answer, normals_denormal}
 use borrow.Author.Rules.{rules}
 use Rattle.remainder.proofs.patterns.remainder64_counted.Goals as goal
 
--- `remainder64_counted` meets its contract: two normal numbers by their own ways, and any two patterns by the general one. Assumes nothing.
 -- the count, and its bound
 counted : (x y n : ℕ) → n ≡ divisions binary64 x y → (n ≡ divisions binary64 x y) × (n ≤ gap_of (class_of binary64 x) (class_of binary64 y) / 11 + 2)
 counted x y n e = (e, rw e (few_divisions binary64 x y))
