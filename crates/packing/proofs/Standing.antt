@@ -1,9 +1,9 @@
 -- Operands that stand for what a format holds: where they come from, and that they are within the code's range. Assumes nothing.
 use mathlib.Core.Path.{◌≡◌, refl, sym, ap, ◌∙◌, subst}
 use mathlib.Core.Bool.{Bool, true, false, not, cond}
-use Prim.Native.Nat.{ℕ, zero, suc, ◌+◌, ◌-◌, ◌*◌, ◌^◌, ◌≤◌, ◌<◌}
+use Prim.Native.Nat.{ℕ, suc, ◌+◌, ◌-◌, ◌^◌, ◌≤◌, ◌<◌}
 use native.Mathlib.Omega.{arith}
-use borrow.Author.Tests.{eqb-true, eqb-false}
+use borrow.Author.Tests.{eqb-false}
 use lib.Dec.{T, ltb, nltb→le, eqb}
 use lib.IntN.{ℤ, pos, negsuc, nat_abs, ◌+ℤ◌, pos-ne-negsuc}
 use lib.Ieee.{size}
@@ -23,7 +23,7 @@ use Rattle.operands.specs.declared.Unpacked.{Unpacked}
 use Rattle.operands.specs.declared.Divisor.{Divisor}
 use Rattle.operands.specs.declared.Divisor.TheVariants.{Unbounded, By}
 use Rattle.operands.specs.Operand.{operand_of, unpacked_of, class_in, value_in, value_operand, divisor_operand, divisor_in, Ready, Unpacks}
-use Rattle.operands.proofs.Lead.{class_back, by_count, some_operand, lead, lead_top, lead_word}
+use Rattle.operands.proofs.Lead.{class_back, lead, lead_top, lead_word}
 use Rattle.laws.proofs.Division.{finish_held}
 use Rattle.laws.proofs.RoundTrip.{read_holds}
 use Rattle.shapes.specs.declared.shape.Shape.{Shape}

@@ -1,7 +1,6 @@
 -- The steps that leave a value as it is: a zero's, and those by an infinite divisor. Assumes nothing.
 use mathlib.Core.Path.{◌≡◌, refl, sym, ap}
 use mathlib.Core.Bool.{Bool, true}
-use mathlib.Core.List.{[], ◌∷◌}
 use Prim.Native.Nat.{ℕ}
 use native.Mathlib.Omega.{arith}
 use Rattle.digits.proofs.Tests.{clash}

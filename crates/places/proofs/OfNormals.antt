@@ -5,11 +5,10 @@ use Prim.Native.Nat.{ℕ, ◌+◌, ◌-◌, ◌*◌, ◌/◌, ◌%◌, ◌^◌, 
 use native.Mathlib.Nat.{mod-lt}
 use native.Mathlib.Omega.{arith}
 use lib.Dec.{leb}
-use Rattle.definitions.specs.Class.{finite}
-use Rattle.definitions.specs.Format.{binary64, class_of, pattern_of}
+use Rattle.definitions.specs.Format.{binary64}
 use Rattle.definitions.specs.Division.{rounds_up}
 use Rattle.definitions.specs.Remainder.{Remainder, quotient_bits, remainder, shown}
-use Rattle.definitions.specs.Fold.{bad, result_at, byte_at}
+use Rattle.definitions.specs.Fold.{result_at, byte_at}
 use Rattle.definitions.specs.declared.Kind.{Kind}
 use Rattle.definitions.specs.declared.Kind.TheVariants.{Truncated, Nearest}
 use Rattle.division.specs.Divided.{divided_of}

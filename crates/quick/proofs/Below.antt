@@ -1,5 +1,5 @@
 -- A normal dividend whose field is so far below the divisor's that it is its own remainder, in every format. Assumes nothing.
-use Rattle.std.proofs.Common.{◌≡◌, ℕ, suc, ◌+◌, ◌-◌, ◌*◌, ◌^◌, ◌<◌, ◌≤◌, true, sym, ap, ◌∙◌, le_trans, lt_of_lt_of_le, mul-le-mul_right, mul_assoc, mul-le-mul_left, mul-lt-mul_of_pos_right, mul-one, arith, pow_pos, pow_mono}
+use Rattle.std.proofs.Common.{◌≡◌, ℕ, ◌+◌, ◌-◌, ◌*◌, ◌^◌, ◌<◌, ◌≤◌, true, sym, ap, ◌∙◌, le_trans, lt_of_lt_of_le, mul-le-mul_right, mul-le-mul_left, mul-lt-mul_of_pos_right, mul-one, arith, pow_pos, pow_mono}
 use Rattle.digits.proofs.Common.{shift_shift}
 use Rattle.digits.proofs.Tests.{not_zero}
 use Rattle.definitions.specs.Format.{Format, Regular, leading, patterns, ordinary}

@@ -1,20 +1,17 @@
 -- The pattern of a significand at the place of a field, as the code writes it. Assumes nothing.
-use mathlib.Core.Path.{◌≡◌, refl, sym, ap, ◌∙◌}
+use mathlib.Core.Path.{◌≡◌, refl, sym, ◌∙◌}
 use mathlib.Core.Logic.{◌⊎◌, ⊎_elim}
 use mathlib.Core.Bool.{Bool, true, false, cond}
-use Prim.Native.Nat.{ℕ, ◌+◌, ◌-◌, ◌*◌, ◌/◌, ◌%◌, ◌^◌, ◌≤◌, ◌<◌}
-use native.Mathlib.Nat.{add-zero, div-one, mod-eq_of_lt, mul-le-mul_right, mul-le-mul_left, le_trans, lt_of_lt_of_le, zero-add, zero-mul}
+use Prim.Native.Nat.{ℕ, ◌+◌, ◌-◌, ◌*◌, ◌/◌, ◌^◌, ◌≤◌, ◌<◌}
+use native.Mathlib.Nat.{add-zero, div-one, mul-le-mul_right, lt_of_lt_of_le, zero-mul}
 use native.Mathlib.Omega.{arith}
-use lib.Count.{count_leading_zeros}
 use lib.Ieee.{size}
 use lib.Ieee.Digits.{size-lt}
 use lib.Pow.{pow_mono, shl_lt, shl-shr}
 use Rattle.digits.proofs.Common.{shift_shift}
-use Rattle.digits.proofs.Size.{size_zero, size_shift, size_leading}
+use Rattle.digits.proofs.Size.{size_zero, size_shift}
 use Rattle.definitions.specs.Class.{finite}
-use Rattle.definitions.specs.Format.{Format, top_field, leading, sign_weight, body, magnitude, pattern_of}
-use Rattle.definitions.specs.declared.Layout.{Layout}
-use Rattle.definitions.specs.declared.Layout.TheVariants.{Hidden}
+use Rattle.definitions.specs.Format.{Format, top_field, leading, sign_weight, magnitude, pattern_of}
 use Rattle.quick_short.specs.Short.{Short}
 use Rattle.quick_short.proofs.Formats.{twice, sign_small, sign_is}
 

@@ -1,7 +1,7 @@
 -- What a step of two normal x87 numbers reports: below 64 places their remainder, finished, and else a cut of the significands.
 -- Assumes nothing.
-use mathlib.Core.Path.{◌≡◌, refl, sym, ap, ◌∙◌}
-use mathlib.Core.Bool.{Bool, true, false}
+use mathlib.Core.Path.{◌≡◌, ap, ◌∙◌}
+use mathlib.Core.Bool.{true, false}
 use Prim.Native.Nat.{ℕ, ◌+◌, ◌-◌, ◌*◌, ◌/◌, ◌%◌, ◌^◌, ◌≤◌, ◌<◌}
 use native.Mathlib.Nat.{mul-div-mul_right}
 use native.Mathlib.Omega.{arith}
@@ -20,7 +20,7 @@ use Rattle.definitions.specs.Facts.{refused_value}
 use Rattle.definitions.specs.Division.{finish_by}
 use Rattle.definitions.specs.Remainder.{quotient_bits, remainder}
 use Rattle.definitions.specs.Steps.{near, cut_at, step_by, step}
-use Rattle.definitions.specs.Reports.{Report, nothing, sized, step_report}
+use Rattle.definitions.specs.Reports.{nothing, sized, step_report}
 use Rattle.definitions.specs.declared.Kind.{Kind}
 use Rattle.laws.proofs.Gap.{gap_near, gap_far}
 use Rattle.laws.proofs.Regular.{regular80}

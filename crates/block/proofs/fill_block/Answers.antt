@@ -1,9 +1,6 @@
 -- `fill_block` meets its contract: the stores leave the definition's twenty bytes.
-use mathlib.Core.Path.{◌∙◌}
 use native.Mathlib.Omega.{arith}
-use lib.ListN.{length-set}
 use Rattle.block.proofs.Filled.{filled}
-use borrow.Author.Rules.{rules}
 use Rattle.block.proofs.fill_block.Goals as goal
 
 pub returns : goal.returns

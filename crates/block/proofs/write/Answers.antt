@@ -3,7 +3,6 @@ use mathlib.Core.Path.{refl}
 use Rattle.definitions.specs.Answers.{steps_meaning}
 use Rattle.laws.proofs.Refusals.{refusal_refuses}
 use Rattle.block.proofs.Written.{filled, untouched}
-use borrow.Author.Rules.{rules}
 use Rattle.block.proofs.write.Goals as goal
 
 pub fill_block-requires : goal.fill_block-requires

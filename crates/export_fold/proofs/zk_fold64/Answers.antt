@@ -10,7 +10,7 @@ use Rattle.export_fold.proofs.zk_fold64.Goals as goal
 pub returns-then-number-ne0 : goal.returns-then-number-ne0
 returns-then-number-ne0 c =
     let told : let a = c.args in fold_meaning c.fold64-answer.result c.fold64-answer.new.results c.fold64-answer.new.quotients ≡ fold_list (kind_of a.kind) a.y a.x.now a.results.now a.quotients.now =
-        rw c.kind_of.ensures at c.fold64-answer.ensures
+    rw c.kind_of.ensures at c.fold64-answer.ensures
     in
     let a = c.args in
     let k = refused _ _ _ a.marked.now _ _ told (fold_number (kind_of a.kind) a.y a.x.now a.results.now a.quotients.now) c.if-number-ne0.true in
@@ -19,7 +19,7 @@ returns-then-number-ne0 c =
 pub returns : goal.returns
 returns c =
     let told : let a = c.args in fold_meaning c.fold64-answer.result c.fold64-answer.new.results c.fold64-answer.new.quotients ≡ fold_list (kind_of a.kind) a.y a.x.now a.results.now a.quotients.now =
-        rw c.kind_of.ensures at c.fold64-answer.ensures
+    rw c.kind_of.ensures at c.fold64-answer.ensures
     in
     let a = c.args in
     let k = folded _ _ _ a.marked.now _ _ told c.if-number-ne0.false in

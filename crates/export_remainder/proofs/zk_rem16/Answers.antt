@@ -14,14 +14,14 @@ use Rattle.export_remainder.proofs.zk_rem16.Goals as goal
 pub overflow_cast-value : goal.overflow_cast-value
 overflow_cast-value c =
     let told : let a = c.args in remainder_meaning c.remainder16-answer.result.answer ≡ remainder binary16 (kind_of a.kind) a.x a.y =
-        rw c.kind_of.ensures at c.remainder16-answer.ensures.answer
+    rw c.kind_of.ensures at c.remainder16-answer.ensures.answer
     in
     record { fits = omega (arith, value_fits binary16 regular16 _ _ _ _ told _ _ c.in-Finished.is) }
 
 pub returns-in-Finished : goal.returns-in-Finished
 returns-in-Finished c =
     let told : let a = c.args in remainder_meaning c.remainder16-answer.result.answer ≡ remainder binary16 (kind_of a.kind) a.x a.y =
-        rw c.kind_of.ensures at c.remainder16-answer.ensures.answer
+    rw c.kind_of.ensures at c.remainder16-answer.ensures.answer
     in
     let k = finished binary16 regular16 _ _ _ _ told _ _ c.in-Finished.is (lit≤ tt) in
     record { number = k.0; value = k.1.0; quotient = k.1.1 }
@@ -29,7 +29,7 @@ returns-in-Finished c =
 pub returns-in-Refused : goal.returns-in-Refused
 returns-in-Refused c =
     let told : let a = c.args in remainder_meaning c.remainder16-answer.result.answer ≡ remainder binary16 (kind_of a.kind) a.x a.y =
-        rw c.kind_of.ensures at c.remainder16-answer.ensures.answer
+    rw c.kind_of.ensures at c.remainder16-answer.ensures.answer
     in
     let a = c.args in
     let k = refused binary16 regular16 _ _ _ _ told _ _ _ c.in-Refused.is c.number_of.ensures a.value.now a.quotient.now in

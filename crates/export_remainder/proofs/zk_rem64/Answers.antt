@@ -13,7 +13,7 @@ use Rattle.export_remainder.proofs.zk_rem64.Goals as goal
 pub returns-in-Finished : goal.returns-in-Finished
 returns-in-Finished c =
     let told : let a = c.args in remainder_meaning c.remainder64-answer.result.answer ≡ remainder binary64 (kind_of a.kind) a.x a.y =
-        rw c.kind_of.ensures at c.remainder64-answer.ensures.answer
+    rw c.kind_of.ensures at c.remainder64-answer.ensures.answer
     in
     let k = finished binary64 regular64 _ _ _ _ told _ _ c.in-Finished.is (lit≤ tt) in
     record { number = k.0; value = k.1.0; quotient = k.1.1 }
@@ -21,7 +21,7 @@ returns-in-Finished c =
 pub returns-in-Refused : goal.returns-in-Refused
 returns-in-Refused c =
     let told : let a = c.args in remainder_meaning c.remainder64-answer.result.answer ≡ remainder binary64 (kind_of a.kind) a.x a.y =
-        rw c.kind_of.ensures at c.remainder64-answer.ensures.answer
+    rw c.kind_of.ensures at c.remainder64-answer.ensures.answer
     in
     let a = c.args in
     let k = refused binary64 regular64 _ _ _ _ told _ _ _ c.in-Refused.is c.number_of.ensures a.value.now a.quotient.now in

@@ -15,7 +15,7 @@ use Rattle.export_remquo.proofs.zk_remquo64.Goals as goal
 pub returns-in-Finished : goal.returns-in-Finished
 returns-in-Finished c =
     let told : let a = c.args in signed_meaning c.remquo64-answer.result.answer ≡ signed_remainder binary64 (kind_of a.kind) a.x a.y =
-        rw c.kind_of.ensures at c.remquo64-answer.ensures.answer
+    rw c.kind_of.ensures at c.remquo64-answer.ensures.answer
     in
     let k = finished binary64 regular64 _ _ _ _ told _ _ c.in-Finished.is _ (to_z-of_z w32 _ (search rules)) (lit≤ tt) in
     record { number = k.0; value = k.1.0; quotient = k.1.1 }
@@ -23,7 +23,7 @@ returns-in-Finished c =
 pub returns-in-Refused : goal.returns-in-Refused
 returns-in-Refused c =
     let told : let a = c.args in signed_meaning c.remquo64-answer.result.answer ≡ signed_remainder binary64 (kind_of a.kind) a.x a.y =
-        rw c.kind_of.ensures at c.remquo64-answer.ensures.answer
+    rw c.kind_of.ensures at c.remquo64-answer.ensures.answer
     in
     let a = c.args in
     let k = refused binary64 regular64 _ _ _ _ told _ _ _ c.in-Refused.is c.number_of.ensures a.value.now a.quotient.now in

@@ -20,7 +20,7 @@ returns-then-block-ne-BLOCK_LENGTH c =
 pub write-requires : goal.write-requires
 write-requires c =
     let told : let a = c.args in run_meaning c.run80-answer.result.answer ≡ run_report (lending a.block.now) (kind_of a.kind) a.size a.budget (words a.xw a.x) (words a.yw a.y) =
-        let a = c.args in
+    let a = c.args in
     (rw c.kind_of.ensures at c.run80-answer.ensures.answer)
     ∙ run_fitting (kind_of a.kind) a.size (words a.xw a.x) (words a.yw a.y) (length a.block.now) a.budget c.if-block-ne-BLOCK_LENGTH.false
     in
@@ -31,7 +31,7 @@ write-requires c =
 pub returns : goal.returns
 returns c =
     let told : let a = c.args in run_meaning c.run80-answer.result.answer ≡ run_report (lending a.block.now) (kind_of a.kind) a.size a.budget (words a.xw a.x) (words a.yw a.y) =
-        let a = c.args in
+    let a = c.args in
     (rw c.kind_of.ensures at c.run80-answer.ensures.answer)
     ∙ run_fitting (kind_of a.kind) a.size (words a.xw a.x) (words a.yw a.y) (length a.block.now) a.budget c.if-block-ne-BLOCK_LENGTH.false
     in

@@ -1,9 +1,6 @@
 -- `fold_alone` meets its contract. After i places both lists are filled from the front up to i.
-use mathlib.Core.Logic.{⊎_elim}
-use Prim.Native.Nat.{◌-◌}
 use native.Mathlib.Omega.{arith}
-use lib.ListN.{length}
-use Rattle.fold.proofs.Passed.{Passed, none_passed, all_passed, marked_more, unmarked_more}
+use Rattle.fold.proofs.Passed.{none_passed, all_passed, marked_more, unmarked_more}
 use Rattle.fold.proofs.fold_alone.Goals.{else-byte, then-byte}
 use Rattle.fold.proofs.fold_alone.Goals as goal
 
@@ -19,8 +16,10 @@ loop-i-preserved c =
     let l = c.loop-i in
     let p = c.place_alone-place in
     let a = c.args in
-    elim c.if-byte.branch [ then-byte w ↦ rw w.marked-is (marked_more a.kind a.y a.x.now a.results.now a.quotients.now c.requires.1 c.requires.2 l.results l.quotients l.marked l.i l.invariant (omega arith) p.result p.ensures w.if-byte.true)
-    | else-byte w ↦ rw w.marked-is (unmarked_more a.kind a.y a.x.now a.results.now a.quotients.now c.requires.1 c.requires.2 l.results l.quotients l.marked l.i l.invariant (omega arith) p.result p.ensures w.if-byte.false) ]
+    elim c.if-byte.branch [
+      | then-byte w ↦ rw w.marked-is (marked_more a.kind a.y a.x.now a.results.now a.quotients.now c.requires.1 c.requires.2 l.results l.quotients l.marked l.i l.invariant (omega arith) p.result p.ensures w.if-byte.true)
+      | else-byte w ↦ rw w.marked-is (unmarked_more a.kind a.y a.x.now a.results.now a.quotients.now c.requires.1 c.requires.2 l.results l.quotients l.marked l.i l.invariant (omega arith) p.result p.ensures w.if-byte.false)
+    ]
 
 pub returns : goal.returns
 returns c =

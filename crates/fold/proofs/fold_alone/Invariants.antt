@@ -1,9 +1,7 @@
 -- `fold_alone` meets its contract. After i places both lists are filled from the front up to i.
-use mathlib.Core.Logic.{⊎_elim}
 use Prim.Native.Nat.{◌-◌}
-use native.Mathlib.Omega.{arith}
 use lib.ListN.{length}
-use Rattle.fold.proofs.Passed.{Passed, none_passed, all_passed, marked_more, unmarked_more}
+use Rattle.fold.proofs.Passed.{Passed}
 use Rattle.fold.proofs.fold_alone.Given as goal
 
 abbrev pub invariant-loop-i : goal.invariant-loop-i
@@ -13,4 +11,3 @@ invariant-loop-i l =
 abbrev pub decreases-loop-i : goal.decreases-loop-i
 decreases-loop-i l =
     length l.x - l.i
-

@@ -1,12 +1,8 @@
 -- `fold_prepared` meets its contract: the lists are filled from the front, and the table holds the powers that it knows.
 use mathlib.Core.Path.{◌∙◌}
-use mathlib.Core.Logic.{⊎_elim}
-use Prim.Native.Nat.{◌-◌}
 use native.Mathlib.Omega.{arith}
-use lib.ListN.{length}
-use Rattle.prepared.specs.Prepared.{Powers}
 use Rattle.prepared.proofs.Kept.{started}
-use Rattle.fold.proofs.Passed.{Passed, none_passed, all_passed, marked_more, unmarked_more}
+use Rattle.fold.proofs.Passed.{none_passed, all_passed, marked_more, unmarked_more}
 use Rattle.fold.proofs.fold_prepared.Goals.{else-shown, then-shown}
 use Rattle.fold.proofs.fold_prepared.Goals as goal
 
@@ -15,9 +11,9 @@ prepare-divisor-requires c = (omega (arith, c.spread.ensures), omega (arith, c.s
 
 pub loop-at-init : goal.loop-at-init
 loop-at-init c = (
-      none_passed c.args.kind c.args.y c.args.x.now c.args.results.now c.args.quotients.now c.requires.1 c.requires.2,
-      started c.prepare-divisor.result.significand c.prepare-divisor.ensures.1.top,
-    )
+  none_passed c.args.kind c.args.y c.args.x.now c.args.results.now c.args.quotients.now c.requires.1 c.requires.2,
+  started c.prepare-divisor.result.significand c.prepare-divisor.ensures.1.top,
+)
 
 pub powers_for-known-requires : goal.powers_for-known-requires
 powers_for-known-requires c = (c.prepare-divisor.ensures.1, c.loop-at.invariant.1)
@@ -31,8 +27,10 @@ loop-at-preserved c =
     let l = c.loop-at in
     let p = c.place_prepared-place in
     let a = c.args in (
-      elim c.if-shown.branch [ then-shown w ↦ rw w.marked-is (marked_more a.kind a.y a.x.now a.results.now a.quotients.now c.requires.1 c.requires.2 l.results l.quotients l.marked l.at l.invariant.0 (omega arith) p.result p.ensures w.if-shown.true)
-    | else-shown w ↦ rw w.marked-is (unmarked_more a.kind a.y a.x.now a.results.now a.quotients.now c.requires.1 c.requires.2 l.results l.quotients l.marked l.at l.invariant.0 (omega arith) p.result p.ensures w.if-shown.false) ],
+      elim c.if-shown.branch [
+        | then-shown w ↦ rw w.marked-is (marked_more a.kind a.y a.x.now a.results.now a.quotients.now c.requires.1 c.requires.2 l.results l.quotients l.marked l.at l.invariant.0 (omega arith) p.result p.ensures w.if-shown.true)
+        | else-shown w ↦ rw w.marked-is (unmarked_more a.kind a.y a.x.now a.results.now a.quotients.now c.requires.1 c.requires.2 l.results l.quotients l.marked l.at l.invariant.0 (omega arith) p.result p.ensures w.if-shown.false)
+      ],
       c.powers_for-known.ensures.0,
     )
 

@@ -1,12 +1,8 @@
 -- `fold_prepared` meets its contract: the lists are filled from the front, and the table holds the powers that it knows.
-use mathlib.Core.Path.{◌∙◌}
-use mathlib.Core.Logic.{⊎_elim}
 use Prim.Native.Nat.{◌-◌}
-use native.Mathlib.Omega.{arith}
 use lib.ListN.{length}
 use Rattle.prepared.specs.Prepared.{Powers}
-use Rattle.prepared.proofs.Kept.{started}
-use Rattle.fold.proofs.Passed.{Passed, none_passed, all_passed, marked_more, unmarked_more}
+use Rattle.fold.proofs.Passed.{Passed}
 use Rattle.fold.proofs.fold_prepared.Given as goal
 
 abbrev pub invariant-loop-at : goal.invariant-loop-at
@@ -16,4 +12,3 @@ invariant-loop-at l =
 abbrev pub decreases-loop-at : goal.decreases-loop-at
 decreases-loop-at l =
     length l.x - l.at
-

@@ -1,8 +1,6 @@
 -- `judge` meets its contract: a normal divisor is accepted.
 use mathlib.Core.Path.{◌≡◌, ◌∙◌}
 use Prim.Native.Nat.{ℕ, ◌<◌}
-use native.Mathlib.Omega.{arith}
-use borrow.Author.Tests.{ltb-true}
 use Rattle.digits.proofs.Tests.{not_zero}
 use Rattle.definitions.specs.Format.{binary64, class_of}
 use Rattle.definitions.specs.Numbers.{first}
@@ -10,7 +8,6 @@ use Rattle.definitions.specs.Fold.{dividing_list}
 use Rattle.quick.specs.Common.{field_of}
 use Rattle.quick.proofs.Normals.{normal_value, count_pos, normal_class}
 use Rattle.quick.proofs.Fields.{normal}
-use borrow.Author.Rules.{rules}
 use Rattle.fold.proofs.judge.Goals as goal
 
 normal-accepted : (y : ℕ) → 0 < field_of y → field_of y < 2047 → 0 ≡ first (dividing_list (class_of binary64 y))

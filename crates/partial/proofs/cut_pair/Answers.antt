@@ -19,69 +19,67 @@ use Rattle.pairs.proofs.TwoOperands.{gap_small}
 use Rattle.pairs.specs.Pair.{settled_of}
 use Rattle.pairs.specs.declared.Left.{Left}
 use Rattle.partial.proofs.Pairs.{cut_pair_is}
-use borrow.Author.Rules.{rules}
 use Rattle.partial.proofs.cut_pair.Goals as goal
 
 pub divide-divided-requires : goal.divide-divided-requires
 divide-divided-requires c =
     let y_ready : Ready c.args.y =
-        ready x87 sound80 c.args.y c.requires.1
+    ready x87 sound80 c.args.y c.requires.1
     in
     y_ready.top
 
 pub overflow_cast-size : goal.overflow_cast-size
 overflow_cast-size c =
     let x_ready : Ready c.args.x =
-        ready x87 sound80 c.args.x c.requires.0
+    ready x87 sound80 c.args.x c.requires.0
     in
     let y_ready : Ready c.args.y =
-        ready x87 sound80 c.args.y c.requires.1
+    ready x87 sound80 c.args.y c.requires.1
     in
     let small : c.args.size < 2 ^ 19 =
-        let g = rw (← c.requires.3) at (gap_small c.args.x c.args.y x_ready y_ready) in omega (arith, c.requires.2)
+    let g = rw (← c.requires.3) at (gap_small c.args.x c.args.y x_ready y_ready) in omega (arith, c.requires.2)
     in
     record { sfits = omega (arith, small) }
 
 pub overflow_sub-x : goal.overflow_sub-x
 overflow_sub-x c =
     let x_ready : Ready c.args.x =
-        ready x87 sound80 c.args.x c.requires.0
+    ready x87 sound80 c.args.x c.requires.0
     in
     let y_ready : Ready c.args.y =
-        ready x87 sound80 c.args.y c.requires.1
+    ready x87 sound80 c.args.y c.requires.1
     in
     let small : c.args.size < 2 ^ 19 =
-        let g = rw (← c.requires.3) at (gap_small c.args.x c.args.y x_ready y_ready) in omega (arith, c.requires.2)
+    let g = rw (← c.requires.3) at (gap_small c.args.x c.args.y x_ready y_ready) in omega (arith, c.requires.2)
     in
     let exponent_back : to_z w32 (of_z w32 c.args.x.exponent) ≡ c.args.x.exponent =
-        small_back c.args.x.exponent (omega (arith, x_ready.small))
+    small_back c.args.x.exponent (omega (arith, x_ready.small))
     in
     let size_back : to_z w32 c.args.size ≡ pos c.args.size =
-        to_z_pos w32 c.args.size (omega (arith, small))
+    to_z_pos w32 c.args.size (omega (arith, small))
     in
     sub_fits c.args.x.exponent (pos c.args.size) _ _ exponent_back size_back (omega (arith, x_ready.small)) (omega (arith, small))
 
 pub settle-left-requires : goal.settle-left-requires
 settle-left-requires c =
     let x_ready : Ready c.args.x =
-        ready x87 sound80 c.args.x c.requires.0
+    ready x87 sound80 c.args.x c.requires.0
     in
     let y_ready : Ready c.args.y =
-        ready x87 sound80 c.args.y c.requires.1
+    ready x87 sound80 c.args.y c.requires.1
     in
     let small : c.args.size < 2 ^ 19 =
-        let g = rw (← c.requires.3) at (gap_small c.args.x c.args.y x_ready y_ready) in omega (arith, c.requires.2)
+    let g = rw (← c.requires.3) at (gap_small c.args.x c.args.y x_ready y_ready) in omega (arith, c.requires.2)
     in
     let exponent_back : to_z w32 (of_z w32 c.args.x.exponent) ≡ c.args.x.exponent =
-        small_back c.args.x.exponent (omega (arith, x_ready.small))
+    small_back c.args.x.exponent (omega (arith, x_ready.small))
     in
     let size_back : to_z w32 c.args.size ≡ pos c.args.size =
-        to_z_pos w32 c.args.size (omega (arith, small))
+    to_z_pos w32 c.args.size (omega (arith, small))
     in
     let lower : to_z w32 (of_z w32 (to_z w32 (of_z w32 c.args.x.exponent) -ℤ to_z w32 c.args.size)) ≡ c.args.x.exponent -ℤ pos c.args.size =
-        sub_is c.args.x.exponent (pos c.args.size) _ _ exponent_back size_back (omega (arith, x_ready.small)) (omega (arith, small))
-    in
-    (
+    sub_is c.args.x.exponent (pos c.args.size) _ _ exponent_back size_back (omega (arith, x_ready.small)) (omega (arith, small))
+    in (
       rw c.divide-divided.ensures (mod-lt _ (lt_of_lt_of_le (pow_pos 63) y_ready.top)),
       rw lower (omega (arith, mag_sub c.args.x.exponent (pos c.args.size), x_ready.small, small)),
     )
@@ -89,22 +87,22 @@ settle-left-requires c =
 pub returns : goal.returns
 returns c =
     let x_ready : Ready c.args.x =
-        ready x87 sound80 c.args.x c.requires.0
+    ready x87 sound80 c.args.x c.requires.0
     in
     let y_ready : Ready c.args.y =
-        ready x87 sound80 c.args.y c.requires.1
+    ready x87 sound80 c.args.y c.requires.1
     in
     let small : c.args.size < 2 ^ 19 =
-        let g = rw (← c.requires.3) at (gap_small c.args.x c.args.y x_ready y_ready) in omega (arith, c.requires.2)
+    let g = rw (← c.requires.3) at (gap_small c.args.x c.args.y x_ready y_ready) in omega (arith, c.requires.2)
     in
     let exponent_back : to_z w32 (of_z w32 c.args.x.exponent) ≡ c.args.x.exponent =
-        small_back c.args.x.exponent (omega (arith, x_ready.small))
+    small_back c.args.x.exponent (omega (arith, x_ready.small))
     in
     let size_back : to_z w32 c.args.size ≡ pos c.args.size =
-        to_z_pos w32 c.args.size (omega (arith, small))
+    to_z_pos w32 c.args.size (omega (arith, small))
     in
     let lower : to_z w32 (of_z w32 (to_z w32 (of_z w32 c.args.x.exponent) -ℤ to_z w32 c.args.size)) ≡ c.args.x.exponent -ℤ pos c.args.size =
-        sub_is c.args.x.exponent (pos c.args.size) _ _ exponent_back size_back (omega (arith, x_ready.small)) (omega (arith, small))
+    sub_is c.args.x.exponent (pos c.args.size) _ _ exponent_back size_back (omega (arith, x_ready.small)) (omega (arith, small))
     in
     let a = c.args in
     let part : c.shifted.result ≡ c.settle-left.result.quotient * 2 ^ (a.places - a.size) % 2 ^ 32 = c.shifted.ensures in

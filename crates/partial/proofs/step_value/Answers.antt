@@ -1,11 +1,8 @@
 -- `step_value` meets its contract: a zero and an infinite divisor leave the value as it is, and two finite values step.
-use mathlib.Core.Path.{sym, ap, ◌∙◌, subst}
-use Rattle.definitions.specs.Format.{x87}
+use mathlib.Core.Path.{sym, ap, ◌∙◌}
 use Rattle.definitions.specs.Steps.{step}
 use Rattle.operands.specs.Operand.{class_in}
-use Rattle.packing.specs.Stands.{StandsValue, StandsDivisor}
 use Rattle.partial.proofs.Kept.{kept_of, unbounded_step, step_other}
-use borrow.Author.Rules.{rules}
 use Rattle.partial.proofs.step_value.Goals as goal
 
 pub returns-in_default : goal.returns-in_default

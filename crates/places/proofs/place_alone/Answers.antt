@@ -1,6 +1,5 @@
 -- `place_alone` meets its contract: a refusal is a mark.
 use Rattle.places.proofs.OnePlace.{finished, refused}
-use borrow.Author.Rules.{rules}
 use Rattle.places.proofs.place_alone.Goals as goal
 
 pub returns-in-Finished : goal.returns-in-Finished

@@ -1,21 +1,20 @@
 -- `place_common` meets its contract: its calls, put together.
-use mathlib.Core.Path.{◌≡◌, refl, sym, ap, ◌∙◌}
+use mathlib.Core.Path.{◌≡◌, ap, ◌∙◌}
 use mathlib.Core.Bool.{Bool, true, false}
-use Prim.Native.Nat.{ℕ, ◌-◌, ◌*◌, ◌%◌, ◌^◌, ◌≤◌, ◌<◌}
+use Prim.Native.Nat.{ℕ, ◌-◌, ◌%◌, ◌^◌, ◌<◌}
 use native.Mathlib.Omega.{arith}
 use lib.Dec.{leb}
 use Rattle.definitions.specs.Format.{binary64}
 use Rattle.definitions.specs.Division.{rounds_up}
 use Rattle.definitions.specs.Remainder.{shown}
 use Rattle.division.specs.declared.Divided.{Divided}
-use Rattle.prepared.specs.Prepared.{slot_of, shown_of}
+use Rattle.prepared.specs.Prepared.{shown_of}
 use Rattle.quick.specs.Common.{field_of, spread_of}
 use Rattle.quick.specs.Settled.{settled_of}
 use Rattle.quick.specs.declared.Settled.{Settled}
 use Rattle.quick.proofs.Fields.{Fields, fields}
 use Rattle.quick.proofs.Scaled.{settled_answer}
 use Rattle.places.proofs.OfNormals.{below, ends, normal_place}
-use borrow.Author.Rules.{rules}
 use Rattle.places.proofs.place_common.Goals as goal
 
 missing : (r y : ℕ) → r % 2 ^ 11 ≡ 0 → r < spread_of y → (spread_of y - r) % 2 ^ 11 ≡ 0
@@ -28,35 +27,35 @@ settled_ends_go x false d y e l = e
 pub written-requires : goal.written-requires
 written-requires c =
     let y : ℕ =
-        c.args.y
+    c.args.y
     in
     let field : ℕ =
-        c.field_of-field.result
+    c.field_of-field.result
     in
     let field_is : field ≡ field_of y =
-        c.field_of-field.ensures
+    c.field_of-field.ensures
     in
     let x : ℕ =
-        c.args.x
+    c.args.x
     in
     let ordered : Fields x y =
-        fields x y c.requires.0
+    fields x y c.requires.0
     in
     let left : Divided =
-        c.divide_prepared-left.result
+    c.divide_prepared-left.result
     in
     let left_is : left ≡ shown_of (spread_of x) (spread_of y) (field_of x - field_of y) =
-        c.divide_prepared-left.ensures ∙ (λ i. shown_of (c.spread.ensures i) (c.requires.1 i) (c.field_of.ensures i - field_is i))
+    c.divide_prepared-left.ensures ∙ (λ i. shown_of (c.spread.ensures i) (c.requires.1 i) (c.field_of.ensures i - field_is i))
     in
     let decided : Bool =
-        rounds_up c.args.kind left.quotient left.remainder (spread_of y)
+    rounds_up c.args.kind left.quotient left.remainder (spread_of y)
     in
     let settled_is : c.settle-settled.result ≡ settled_of decided (leb (2 ^ 63) x) left (spread_of y) =
-        c.settle-settled.ensures
+    c.settle-settled.ensures
     ∙ (λ i. settled_of (rounds_up c.args.kind left.quotient left.remainder (c.spread-2.ensures i)) (leb (2 ^ 63) x) left (c.spread-2.ensures i))
     in
     let settled_ends : c.settle-settled.result.rest % 2 ^ 11 ≡ 0 =
-        rw settled_is
+    rw settled_is
     (settled_ends_go x decided left y
     (ends c.args.kind x y ordered left left_is)
     (below c.args.kind x y ordered left left_is))
@@ -67,31 +66,31 @@ written-requires c =
 pub returns : goal.returns
 returns c =
     let x : ℕ =
-        c.args.x
+    c.args.x
     in
     let y : ℕ =
-        c.args.y
+    c.args.y
     in
     let left : Divided =
-        c.divide_prepared-left.result
+    c.divide_prepared-left.result
     in
     let field : ℕ =
-        c.field_of-field.result
+    c.field_of-field.result
     in
     let field_is : field ≡ field_of y =
-        c.field_of-field.ensures
+    c.field_of-field.ensures
     in
     let ordered : Fields x y =
-        fields x y c.requires.0
+    fields x y c.requires.0
     in
     let left_is : left ≡ shown_of (spread_of x) (spread_of y) (field_of x - field_of y) =
-        c.divide_prepared-left.ensures ∙ (λ i. shown_of (c.spread.ensures i) (c.requires.1 i) (c.field_of.ensures i - field_is i))
+    c.divide_prepared-left.ensures ∙ (λ i. shown_of (c.spread.ensures i) (c.requires.1 i) (c.field_of.ensures i - field_is i))
     in
     let decided : Bool =
-        rounds_up c.args.kind left.quotient left.remainder (spread_of y)
+    rounds_up c.args.kind left.quotient left.remainder (spread_of y)
     in
     let settled_is : c.settle-settled.result ≡ settled_of decided (leb (2 ^ 63) x) left (spread_of y) =
-        c.settle-settled.ensures
+    c.settle-settled.ensures
     ∙ (λ i. settled_of (rounds_up c.args.kind left.quotient left.remainder (c.spread-2.ensures i)) (leb (2 ^ 63) x) left (c.spread-2.ensures i))
     in
     normal_place c.args.kind x y ordered left left_is c.written.result c.shown_bits.result

@@ -1,5 +1,5 @@
 -- `divide_quick` meets its contract: it is the engine's first case, or the engine.
-use Rattle.std.proofs.Common.{lt_of_lt_of_le, pow_pos, rules}
+use Rattle.std.proofs.Common.{lt_of_lt_of_le, pow_pos}
 use Rattle.division.proofs.Zeros.{trailing_mod}
 use Rattle.division.proofs.Count.{counted_once}
 use Rattle.quick.proofs.divide_quick.Goals as goal

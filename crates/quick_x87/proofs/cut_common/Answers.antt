@@ -1,8 +1,7 @@
 -- `cut_common` meets its contract: the division to `size` places, written in the place that is left.
 use mathlib.Core.Path.{◌≡◌, sym, ap, ◌∙◌}
-use Prim.Native.Nat.{ℕ, ◌+◌, ◌-◌, ◌*◌, ◌/◌, ◌%◌, ◌^◌, ◌≤◌}
+use Prim.Native.Nat.{◌+◌, ◌-◌, ◌*◌, ◌/◌, ◌%◌, ◌^◌, ◌≤◌}
 use native.Mathlib.Omega.{arith}
-use lib.Dec.{leb}
 use Rattle.chains.proofs.Step.{sized_bounds}
 use Rattle.digits.proofs.Common.{mod_times}
 use Rattle.definitions.specs.Class.{finite}
@@ -13,16 +12,15 @@ use Rattle.quotients.proofs.Bits.{bits_low}
 use Rattle.quick.proofs.Normals.{exponent_field}
 use Rattle.quick_x87.proofs.Parts.{Parts, both}
 use Rattle.quick_x87.proofs.Steps.{cut_report}
-use borrow.Author.Rules.{rules}
 use Rattle.quick_x87.proofs.cut_common.Goals as goal
 
 pub returns : goal.returns
 returns c κ =
     let pair : Parts c.args.x c.args.xw × Parts c.args.y c.args.yw =
-        let f = c.ranges in both _ _ _ _ f.x.fits f.xw.fits f.y.fits f.yw.fits c.requires.0
+    let f = c.ranges in both _ _ _ _ f.x.fits f.xw.fits f.y.fits f.yw.fits c.requires.0
     in
     let small : c.args.size ≤ 63 =
-        (sized_bounds c.args.size c.requires.3).1
+    (sized_bounds c.args.size c.requires.3).1
     in
     let a = c.args in
     let p = pair in

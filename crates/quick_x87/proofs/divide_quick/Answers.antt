@@ -1,6 +1,5 @@
 -- `divide_quick` meets its contract: each case is one of the engine's.
 use Rattle.division.proofs.Zeros.{trailing_mod}
-use borrow.Author.Rules.{rules}
 use Rattle.quick_x87.proofs.divide_quick.Goals as goal
 
 pub divide_once-requires : goal.divide_once-requires

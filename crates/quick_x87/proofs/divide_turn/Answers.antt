@@ -1,11 +1,10 @@
 -- `divide_turn` meets its contract: the dividend is moved over two words, and divided by the reciprocal.
 use mathlib.Core.Path.{ap, ◌∙◌}
-use Prim.Native.Nat.{◌-◌, ◌%◌, ◌^◌}
+use Prim.Native.Nat.{◌%◌, ◌^◌}
 use native.Mathlib.Nat.{mod-eq_of_lt}
 use Rattle.reciprocals.specs.declared.Quotient.{Quotient}
 use Rattle.division.specs.declared.Divided.{Divided}
-use Rattle.division.proofs.Places.{first_word, upper_under}
-use borrow.Author.Rules.{rules}
+use Rattle.division.proofs.Places.{first_word}
 use Rattle.quick_x87.proofs.divide_turn.Goals as goal
 
 -- a quotient with its low 32 bits

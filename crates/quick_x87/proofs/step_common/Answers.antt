@@ -1,12 +1,11 @@
 -- `step_common` meets its contract: the gap decides between the remainder and the partial step.
-use mathlib.Core.Path.{◌≡◌, sym, ap, ◌∙◌}
+use mathlib.Core.Path.{sym, ap, ◌∙◌}
 use native.Mathlib.Omega.{arith}
 use Rattle.definitions.specs.Format.{words}
 use Rattle.definitions.specs.Remainder.{Remainder}
 use Rattle.definitions.specs.Answers.{steps_meaning}
 use Rattle.quick_x87.proofs.Parts.{both}
 use Rattle.quick_x87.proofs.Steps.{near_report}
-use borrow.Author.Rules.{rules}
 use Rattle.quick_x87.proofs.step_common.Goals as goal
 
 pub returns-then-gap-lt64 : goal.returns-then-gap-lt64

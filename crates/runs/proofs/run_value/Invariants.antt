@@ -1,10 +1,8 @@
 -- `run_value` meets its contract: the loop's invariant is the run itself, with as many steps as the loop has taken.
-use Rattle.std.proofs.Common.{◌≡◌, ℕ, ◌-◌, ◌≤◌, ap, ◌∙◌, arith, rules}
+use Rattle.std.proofs.Common.{◌-◌, ◌≤◌}
 use Rattle.definitions.specs.Format.{x87}
-use Rattle.definitions.specs.Steps.{run}
 use Rattle.operands.specs.Operand.{value_operand, divisor_in}
-use Rattle.runs.specs.Ran.{ran_of}
-use Rattle.runs.proofs.Loop.{Reached, reached_none, reached_stands, reached_next, reached_done, reached_spent}
+use Rattle.runs.proofs.Loop.{Reached}
 use Rattle.runs.proofs.run_value.Given as goal
 
 abbrev pub invariant-loop-steps : goal.invariant-loop-steps
@@ -14,4 +12,3 @@ invariant-loop-steps l =
 abbrev pub decreases-loop-steps : goal.decreases-loop-steps
 decreases-loop-steps l =
     l.budget - l.steps
-

@@ -1,7 +1,6 @@
 -- `is_denormal` meets its contract: both fields are those of the pattern.
 use mathlib.Core.Path.{◌∙◌}
 use native.Mathlib.Omega.{arith}
-use borrow.Author.Rules.{rules}
 use borrow.Author.Tests.{ne_eqb}
 use Rattle.definitions.specs.Answers.{joined}
 use Rattle.shapes.specs.Shape.{format_of}

@@ -1,11 +1,7 @@
 -- `nan_of` meets its contract: what is chosen is made quiet and packed.
-use mathlib.Core.Path.{◌∙◌, subst, sym}
-use borrow.Author.Rules.{rules}
-use Rattle.definitions.specs.Format.{pattern_of}
-use Rattle.operands.specs.declared.Operand.TheVariants.{Nan}
+use mathlib.Core.Path.{◌∙◌}
 use Rattle.operands.specs.Operand.{class_in}
 use Rattle.shapes.specs.Shape.{format_of}
-use Rattle.packing.specs.Stands.{Stands}
 use Rattle.laws.proofs.Nan.{quieted_stored}
 use Rattle.facts.proofs.Choosing.{nan_stands, chosen_held, chosen_nan, chosen_none}
 use Rattle.facts.proofs.nan.nan_of.Goals as goal

@@ -1,6 +1,5 @@
 -- `refused_value` meets its contract.
 use mathlib.Core.Path.{◌∙◌}
-use borrow.Author.Rules.{rules}
 use Rattle.definitions.specs.Facts.{refused_value}
 use Rattle.operands.specs.Operand.{class_in}
 use Rattle.shapes.specs.Shape.{format_of}

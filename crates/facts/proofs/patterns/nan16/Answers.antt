@@ -3,7 +3,6 @@ use Rattle.definitions.specs.Format.{binary16}
 use Rattle.shapes.proofs.Sounds.{sound16}
 use Rattle.packing.proofs.Standing.{patterns_stand}
 use Rattle.facts.proofs.Choosing.{patterns_nan}
-use borrow.Author.Rules.{rules}
 use Rattle.facts.proofs.patterns.nan16.Goals as goal
 
 pub nan_of-requires : goal.nan_of-requires

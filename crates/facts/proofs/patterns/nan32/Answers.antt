@@ -3,7 +3,6 @@ use Rattle.definitions.specs.Format.{binary32}
 use Rattle.shapes.proofs.Sounds.{sound32}
 use Rattle.packing.proofs.Standing.{patterns_stand}
 use Rattle.facts.proofs.Choosing.{patterns_nan}
-use borrow.Author.Rules.{rules}
 use Rattle.facts.proofs.patterns.nan32.Goals as goal
 
 pub nan_of-requires : goal.nan_of-requires

@@ -1,5 +1,4 @@
 -- `house_operand` meets its contract.
-use borrow.Author.Rules.{rules}
 use Rattle.operands.specs.Operand.{operand_of}
 use Rattle.packing.proofs.pack.house_operand.Goals as goal
 

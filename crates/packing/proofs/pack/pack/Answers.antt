@@ -1,12 +1,9 @@
 -- `pack` meets its contract, case by case.
 use mathlib.Core.Path.{refl, ap, ◌∙◌, subst}
 use native.Mathlib.Omega.{arith}
-use borrow.Author.Rules.{rules}
 use Rattle.definitions.specs.Format.{pattern_of, with_sign}
 use Rattle.operands.specs.declared.Operand.TheVariants.{Finite}
 use Rattle.operands.specs.Operand.{class_in, value_in}
-use Rattle.laws.proofs.Layouts.{weight_pos}
-use Rattle.laws.proofs.Fields.{infinity_rest}
 use Rattle.shapes.specs.Shape.{format_of}
 use Rattle.packing.specs.Stands.{Stands}
 use Rattle.packing.proofs.Standing.{stands_finite}

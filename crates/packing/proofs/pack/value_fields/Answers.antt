@@ -1,10 +1,7 @@
 -- `value_fields` meets its contract: a value without its leading digit has dropped none, and its field is 0.
 use mathlib.Core.Path.{refl}
 use native.Mathlib.Omega.{arith}
-use borrow.Author.Rules.{rules}
-use Rattle.definitions.specs.Format.{Representable, leading}
 use Rattle.operands.specs.Operand.{class_in, value_in}
-use Rattle.laws.proofs.Layouts.{hidden_le}
 use Rattle.shapes.specs.Shape.{format_of}
 use Rattle.packing.proofs.Packing.{low_written, high_written}
 use Rattle.packing.proofs.pack.value_fields.Goals as goal

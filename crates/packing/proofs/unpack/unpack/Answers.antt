@@ -1,6 +1,5 @@
 -- `unpack` meets its contract: each case of the fields is its class.
 use mathlib.Core.Path.{◌≡◌, sym, ap, ◌∙◌}
-use mathlib.Core.Bool.{Bool}
 use Prim.Native.Nat.{ℕ, ◌+◌, ◌-◌, ◌^◌, ◌≤◌, ◌<◌}
 use native.Mathlib.Omega.{arith}
 use lib.IntN.{ℤ, pos, ◌+ℤ◌}
@@ -13,9 +12,8 @@ use Rattle.definitions.specs.Format.{leading, hidden_part}
 use Rattle.operands.specs.Operand.{normal_of}
 use Rattle.shapes.specs.Shape.{format_of}
 use Rattle.packing.proofs.Standing.{smallest_small}
-use Rattle.shapes.proofs.Weights.{top_le, significand_word}
-use Rattle.packing.proofs.Reading.{field_le, stored_small, low, unnormal, infinite_top, nan_top, high}
-use borrow.Author.Rules.{rules}
+use Rattle.shapes.proofs.Weights.{top_le}
+use Rattle.packing.proofs.Reading.{field_le, low, unnormal, infinite_top, nan_top, high}
 use Rattle.packing.proofs.unpack.unpack.Goals as goal
 
 -- an exponent a little above a small one is read back as it was written
@@ -25,7 +23,7 @@ exponent_back s e k small is low = small_back e (let b : mag e < 2 ^ 17 = rw is 
 pub returns-then-field-eq0 : goal.returns-then-field-eq0
 returns-then-field-eq0 c =
     let back : to_z w32 (of_z w32 c.args.shape.smallest) ≡ c.args.shape.smallest =
-        small_back c.args.shape.smallest (omega (arith, smallest_small (format_of c.args.shape) c.requires.0))
+    small_back c.args.shape.smallest (omega (arith, smallest_small (format_of c.args.shape) c.requires.0))
     in
     let small = smallest_small (format_of c.args.shape) c.requires.0 in
     let r = c.fields_of-fields.result in
@@ -37,7 +35,7 @@ returns-then-field-eq0 c =
 pub returns-then-significand-leading : goal.returns-then-significand-leading
 returns-then-significand-leading c =
     let whole : c.hidden_part.result + c.fields_of-fields.result.stored ≡ hidden_part c.args.shape.layout (leading (format_of c.args.shape)) + c.fields_of-fields.result.stored =
-        ap (λ (h : ℕ). h + c.fields_of-fields.result.stored) c.hidden_part.ensures
+    ap (λ (h : ℕ). h + c.fields_of-fields.result.stored) c.hidden_part.ensures
     in
     unnormal (format_of c.args.shape) c.requires.0 (joined c.args.pattern) c.fields_of-fields.result c.fields_of-fields.ensures _ whole c.if-field-eq0.false
     (omega arith)
@@ -45,7 +43,7 @@ returns-then-significand-leading c =
 pub returns-then-significand-leading-2 : goal.returns-then-significand-leading-2
 returns-then-significand-leading-2 c =
     let whole : c.hidden_part.result + c.fields_of-fields.result.stored ≡ hidden_part c.args.shape.layout (leading (format_of c.args.shape)) + c.fields_of-fields.result.stored =
-        ap (λ (h : ℕ). h + c.fields_of-fields.result.stored) c.hidden_part.ensures
+    ap (λ (h : ℕ). h + c.fields_of-fields.result.stored) c.hidden_part.ensures
     in
     infinite_top (format_of c.args.shape) c.requires.0 (joined c.args.pattern) c.fields_of-fields.result c.fields_of-fields.ensures _ whole c.if-field-eq0.false
     (omega arith) (c.if-field-top_field.true ∙ c.top_field.ensures) (c.if-significand-leading-2.true ∙ c.leading_weight-leading.ensures)
@@ -53,7 +51,7 @@ returns-then-significand-leading-2 c =
 pub returns-then-field-top_field : goal.returns-then-field-top_field
 returns-then-field-top_field c =
     let whole : c.hidden_part.result + c.fields_of-fields.result.stored ≡ hidden_part c.args.shape.layout (leading (format_of c.args.shape)) + c.fields_of-fields.result.stored =
-        ap (λ (h : ℕ). h + c.fields_of-fields.result.stored) c.hidden_part.ensures
+    ap (λ (h : ℕ). h + c.fields_of-fields.result.stored) c.hidden_part.ensures
     in
     nan_top (format_of c.args.shape) c.requires.0 (joined c.args.pattern) c.fields_of-fields.result c.fields_of-fields.ensures _ whole c.if-field-eq0.false
     (omega arith) (c.if-field-top_field.true ∙ c.top_field.ensures) (λ q. c.if-significand-leading-2.false (q ∙ sym c.leading_weight-leading.ensures))
@@ -61,14 +59,14 @@ returns-then-field-top_field c =
 pub returns : goal.returns
 returns c =
     let back : to_z w32 (of_z w32 c.args.shape.smallest) ≡ c.args.shape.smallest =
-        small_back c.args.shape.smallest (omega (arith, smallest_small (format_of c.args.shape) c.requires.0))
+    small_back c.args.shape.smallest (omega (arith, smallest_small (format_of c.args.shape) c.requires.0))
     in
     let small = smallest_small (format_of c.args.shape) c.requires.0 in
     let whole : c.hidden_part.result + c.fields_of-fields.result.stored ≡ hidden_part c.args.shape.layout (leading (format_of c.args.shape)) + c.fields_of-fields.result.stored =
-        ap (λ (h : ℕ). h + c.fields_of-fields.result.stored) c.hidden_part.ensures
+    ap (λ (h : ℕ). h + c.fields_of-fields.result.stored) c.hidden_part.ensures
     in
     let field_small : c.fields_of-fields.result.field ≤ 32767 =
-        let l = field_le (format_of c.args.shape) c.requires.0 (joined c.args.pattern) c.fields_of-fields.result c.fields_of-fields.ensures in
+    let l = field_le (format_of c.args.shape) c.requires.0 (joined c.args.pattern) c.fields_of-fields.result c.fields_of-fields.ensures in
     omega (arith, top_le (format_of c.args.shape) c.requires.0)
     in
     let r = c.fields_of-fields.result in

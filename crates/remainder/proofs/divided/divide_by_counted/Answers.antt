@@ -9,7 +9,6 @@ use Rattle.packing.specs.Stands.{StandsValue, StandsDivisor}
 use Rattle.packing.proofs.Standing.{value_stands, ready}
 use Rattle.operands.proofs.Cases.{other_unbounded}
 use Rattle.remainder.proofs.ByDivisor.{not_divided, by_unbounded, zero_kept, left_stands, left_written}
-use borrow.Author.Rules.{rules}
 use Rattle.remainder.proofs.divided.divide_by_counted.Goals as goal
 
 pub pack-requires : goal.pack-requires
@@ -42,52 +41,52 @@ returns-in_default-y c =
 pub gap-requires : goal.gap-requires
 gap-requires c =
     let format : Format =
-        format_of c.args.shape
+    format_of c.args.shape
     in
     let dividend : StandsValue format (Finite c.in-Finite.a) =
-        subst (StandsValue format) c.in-Finite.is c.requires.1
+    subst (StandsValue format) c.in-Finite.is c.requires.1
     in
     let divisor : StandsValue format (Finite c.in-By.b) =
-        subst (StandsDivisor format) c.in-By.is c.requires.2
+    subst (StandsDivisor format) c.in-By.is c.requires.2
     in
     (ready format c.requires.0 _ dividend, ready format c.requires.0 _ divisor)
 
 pub finish_counted-counted-requires : goal.finish_counted-counted-requires
 finish_counted-counted-requires c =
     let format : Format =
-        format_of c.args.shape
+    format_of c.args.shape
     in
     let dividend : StandsValue format (Finite c.in-Finite.a) =
-        subst (StandsValue format) c.in-Finite.is c.requires.1
+    subst (StandsValue format) c.in-Finite.is c.requires.1
     in
     let divisor : StandsValue format (Finite c.in-By.b) =
-        subst (StandsDivisor format) c.in-By.is c.requires.2
+    subst (StandsDivisor format) c.in-By.is c.requires.2
     in
     (ready format c.requires.0 _ dividend, ready format c.requires.0 _ divisor, to_z-of_z w32 c.gap.result (record { sfits = c.gap.type_inv }) ∙ c.gap.ensures)
 
 pub pack-requires-2 : goal.pack-requires-2
 pack-requires-2 c =
     let format : Format =
-        format_of c.args.shape
+    format_of c.args.shape
     in
     let dividend : StandsValue format (Finite c.in-Finite.a) =
-        subst (StandsValue format) c.in-Finite.is c.requires.1
+    subst (StandsValue format) c.in-Finite.is c.requires.1
     in
     let divisor : StandsValue format (Finite c.in-By.b) =
-        subst (StandsDivisor format) c.in-By.is c.requires.2
+    subst (StandsDivisor format) c.in-By.is c.requires.2
     in
     (c.requires.0, value_stands format c.requires.0 _ (left_stands format c.requires.0 c.args.kind _ _ dividend divisor c.finish_counted-counted.result.left c.finish_counted-counted.ensures.left))
 
 pub returns : goal.returns
 returns c =
     let format : Format =
-        format_of c.args.shape
+    format_of c.args.shape
     in
     let dividend : StandsValue format (Finite c.in-Finite.a) =
-        subst (StandsValue format) c.in-Finite.is c.requires.1
+    subst (StandsValue format) c.in-Finite.is c.requires.1
     in
     let divisor : StandsValue format (Finite c.in-By.b) =
-        subst (StandsDivisor format) c.in-By.is c.requires.2
+    subst (StandsDivisor format) c.in-By.is c.requires.2
     in
     let w = left_written format c.requires.0 c.args.kind _ _ dividend divisor c.finish_counted-counted.result.left c.finish_counted-counted.ensures.left _ _ c.pack-2.ensures c.quotient_bits.ensures in
     rw (c.in-Finite.is, c.in-By.is) (record {

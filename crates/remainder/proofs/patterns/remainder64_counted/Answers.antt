@@ -6,7 +6,6 @@ use Rattle.pairs.specs.Divisions.{divisions, gap_of}
 use Rattle.pairs.proofs.Divisions.{few_divisions}
 use Rattle.quick.proofs.Fields.{fields, dividend, divisor, below, dividend_below, divisor_above}
 use Rattle.remainder.proofs.OfPatterns.{word_answer, normals_denormal}
-use borrow.Author.Rules.{rules}
 use Rattle.remainder.proofs.patterns.remainder64_counted.Goals as goal
 
 -- the count, and its bound

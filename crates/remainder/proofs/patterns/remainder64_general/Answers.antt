@@ -3,7 +3,6 @@ use Rattle.definitions.specs.Format.{binary64}
 use Rattle.shapes.proofs.Sounds.{sound64}
 use Rattle.remainder.proofs.OfPatterns.{patterns_remainder, patterns_denormal, patterns_divisions}
 use Rattle.packing.proofs.Standing.{patterns_stand}
-use borrow.Author.Rules.{rules}
 use Rattle.remainder.proofs.patterns.remainder64_general.Goals as goal
 
 pub remainder_counted-counted-requires : goal.remainder_counted-counted-requires

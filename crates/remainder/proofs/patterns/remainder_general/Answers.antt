@@ -1,10 +1,8 @@
 -- `remainder_general` meets its contract: the operands are those of the patterns.
 use mathlib.Core.Path.{refl}
-use Rattle.definitions.specs.Answers.{joined}
 use Rattle.shapes.specs.Shape.{format_of}
 use Rattle.remainder.proofs.OfPatterns.{patterns_remainder, patterns_denormal}
 use Rattle.packing.proofs.Standing.{patterns_stand}
-use borrow.Author.Rules.{rules}
 use Rattle.remainder.proofs.patterns.remainder_general.Goals as goal
 
 pub remainder_of-requires : goal.remainder_of-requires

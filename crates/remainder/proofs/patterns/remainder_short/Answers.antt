@@ -1,9 +1,8 @@
 -- `remainder_short` meets its contract: what is quick is finished, and neither operand is denormal.
-use mathlib.Core.Path.{◌≡◌, ◌∙◌}
+use mathlib.Core.Path.{◌∙◌}
 use Rattle.shapes.specs.Shape.{format_of}
 use Rattle.quick_short.proofs.Fields.{both_normal}
 use Rattle.remainder.proofs.OfPatterns.{finished_answer, normals_denormal}
-use borrow.Author.Rules.{rules}
 use Rattle.remainder.proofs.patterns.remainder_short.Goals as goal
 
 pub returns : goal.returns

@@ -3,7 +3,6 @@ use Rattle.definitions.specs.Format.{binary16}
 use Rattle.shapes.proofs.Sounds.{sound16}
 use Rattle.packing.proofs.Standing.{patterns_stand}
 use Rattle.remquo.proofs.OfOperands.{patterns_signed, patterns_denormal}
-use borrow.Author.Rules.{rules}
 use Rattle.remquo.proofs.patterns.remquo16.Goals as goal
 
 pub signed_of-requires : goal.signed_of-requires

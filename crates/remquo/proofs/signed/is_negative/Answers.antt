@@ -1,6 +1,5 @@
 -- `is_negative` meets its contract, case by case.
 use Rattle.operands.specs.Operand.{class_in}
-use borrow.Author.Rules.{rules}
 use Rattle.remquo.proofs.signed.is_negative.Goals as goal
 
 pub returns-in-Unsupported : goal.returns-in-Unsupported

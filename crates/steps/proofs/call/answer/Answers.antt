@@ -8,7 +8,6 @@ use Rattle.shapes.specs.declared.shape.Shape.{Shape}
 use Rattle.packing.specs.Stands.{Stands}
 use Rattle.shapes.proofs.Sounds.{sound80}
 use Rattle.packing.proofs.Standing.{value_stands}
-use borrow.Author.Rules.{rules}
 use Rattle.steps.proofs.call.answer.Goals as goal
 
 pub pack-value-requires : goal.pack-value-requires
@@ -20,7 +19,7 @@ pub returns-then-ran : goal.returns-then-ran
 unfolding steps_meaning
 returns-then-ran c u =
     let packed : joined c.pack-value.result ≡ pattern_of x87 (class_in x87.smallest c.args.ran.value) =
-        c.pack-value.ensures ∙ ap (λ (h : Shape). pattern_of (format_of h) (class_in h.smallest c.args.ran.value)) c.shape.ensures
+    c.pack-value.ensures ∙ ap (λ (h : Shape). pattern_of (format_of h) (class_in h.smallest c.args.ran.value)) c.shape.ensures
     in
     let t = c.args.ran in
     rw c.if-ran.true (λ i. record { number = 0; value = packed i; quotient = c.quotient_bits-quotient.ensures i; steps = t.steps })
@@ -29,7 +28,7 @@ pub returns-else-ran : goal.returns-else-ran
 unfolding steps_meaning
 returns-else-ran c u =
     let packed : joined c.pack-value.result ≡ pattern_of x87 (class_in x87.smallest c.args.ran.value) =
-        c.pack-value.ensures ∙ ap (λ (h : Shape). pattern_of (format_of h) (class_in h.smallest c.args.ran.value)) c.shape.ensures
+    c.pack-value.ensures ∙ ap (λ (h : Shape). pattern_of (format_of h) (class_in h.smallest c.args.ran.value)) c.shape.ensures
     in
     let t = c.args.ran in
     rw c.if-ran.false (λ i. record { number = u; value = packed i; quotient = c.quotient_bits-quotient.ensures i; steps = t.steps })

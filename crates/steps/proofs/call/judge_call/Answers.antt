@@ -1,9 +1,7 @@
 -- `judge_call` meets its contract: the size, then the operands.
 use mathlib.Core.Path.{sym, ◌∙◌}
-use borrow.Author.Tests.{not-true, not-false}
 use Rattle.definitions.specs.Numbers.{dividing}
 use Rattle.steps.proofs.Called.{missized, right_sized}
-use borrow.Author.Rules.{rules}
 use Rattle.steps.proofs.call.judge_call.Goals as goal
 
 pub returns-then-not-is_sized : goal.returns-then-not-is_sized

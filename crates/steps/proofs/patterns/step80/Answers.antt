@@ -1,7 +1,6 @@
 -- `step80` meets its contract: two normal numbers by their own way, and any two patterns by the general one.
 use mathlib.Core.Path.{◌≡◌, sym, ◌∙◌}
-use mathlib.Core.Bool.{true, false}
-use borrow.Author.Tests.{not-false, ltb-false}
+use mathlib.Core.Bool.{true}
 use Rattle.digits.proofs.Tests.{and_false}
 use Rattle.definitions.specs.Format.{x87, words}
 use Rattle.definitions.specs.Reports.{sized}
@@ -9,13 +8,12 @@ use Rattle.definitions.proofs.Facts.{told_sized}
 use Rattle.quick.proofs.Normals.{normal_denormal}
 use Rattle.quick_x87.specs.Common.{normals}
 use Rattle.quick_x87.proofs.Parts.{both}
-use borrow.Author.Rules.{rules}
 use Rattle.steps.proofs.patterns.step80.Goals as goal
 
 pub returns : goal.returns
 returns c =
     let test : normals c.args.x c.args.xw c.args.y c.args.yw ≡ true =
-        sym c.are_normal.ensures ∙ c.if-not-are_normal.false
+    sym c.are_normal.ensures ∙ c.if-not-are_normal.false
     in
     let a = c.args in
     let f = c.ranges in

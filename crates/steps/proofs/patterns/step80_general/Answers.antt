@@ -3,7 +3,6 @@ use mathlib.Core.Path.{refl, sym, ◌∙◌}
 use Rattle.definitions.specs.Format.{words}
 use Rattle.definitions.proofs.Facts.{told_sized}
 use Rattle.steps.proofs.Called.{patterns_stand, step_report_lem}
-use borrow.Author.Rules.{rules}
 use Rattle.steps.proofs.patterns.step80_general.Goals as goal
 
 pub call-requires : goal.call-requires
