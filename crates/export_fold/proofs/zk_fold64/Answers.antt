@@ -4,7 +4,6 @@ use Rattle.definitions.specs.Fold.{fold_list}
 use Rattle.definitions.specs.Block.{kind_of}
 use Rattle.fold.specs.Filled.{fold_meaning}
 use Rattle.export_fold.proofs.Written.{fold_number, refused, folded}
-use borrow.Author.Rules.{rules}
 use Rattle.export_fold.proofs.zk_fold64.Goals as goal
 
 pub returns-then-number-ne0 : goal.returns-then-number-ne0

@@ -8,7 +8,6 @@ use Rattle.definitions.specs.Answers.{remainder_meaning}
 use Rattle.definitions.specs.Block.{kind_of}
 use Rattle.laws.proofs.Regular.{regular16}
 use Rattle.export_remainder.proofs.Written.{value_fits, finished, refused}
-use borrow.Author.Rules.{rules}
 use Rattle.export_remainder.proofs.zk_rem16.Goals as goal
 
 pub overflow_cast-value : goal.overflow_cast-value

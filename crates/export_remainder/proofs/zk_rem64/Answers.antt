@@ -7,7 +7,6 @@ use Rattle.definitions.specs.Answers.{remainder_meaning}
 use Rattle.definitions.specs.Block.{kind_of}
 use Rattle.laws.proofs.Regular.{regular64}
 use Rattle.export_remainder.proofs.Written.{finished, refused}
-use borrow.Author.Rules.{rules}
 use Rattle.export_remainder.proofs.zk_rem64.Goals as goal
 
 pub returns-in-Finished : goal.returns-in-Finished

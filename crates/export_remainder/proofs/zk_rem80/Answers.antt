@@ -7,7 +7,6 @@ use Rattle.definitions.specs.Answers.{remainder_meaning}
 use Rattle.definitions.specs.Block.{kind_of}
 use Rattle.laws.proofs.Regular.{regular80}
 use Rattle.export_remainder.proofs.Written.{value_fits, finished80, refused80}
-use borrow.Author.Rules.{rules}
 use Rattle.export_remainder.proofs.zk_rem80.Goals as goal
 
 pub overflow_cast-valuew : goal.overflow_cast-valuew

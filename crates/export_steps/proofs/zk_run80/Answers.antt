@@ -8,7 +8,6 @@ use Rattle.definitions.specs.Block.{kind_of}
 use Rattle.chains.proofs.Small.{Small, run_small}
 use Rattle.definitions.specs.Exports.{lending}
 use Rattle.export_steps.proofs.Written.{misfit, run_fitting, run_misfit}
-use borrow.Author.Rules.{rules}
 use Rattle.export_steps.proofs.zk_run80.Goals as goal
 
 pub returns-then-block-ne-BLOCK_LENGTH : goal.returns-then-block-ne-BLOCK_LENGTH
