@@ -49,6 +49,7 @@ code() {
 code 'double twice(double x) { return x + x; }' 'computes by addsd$'
 code 'long double twice(long double x) { return x + x; }' 'computes by f'
 code 'int is_nan(double x) { return x != x; }' 'computes by ucomisd$'
+code 'float minus(float x) { return -x; }' 'computes by xorps$'
 code 'long ask(void) { long r; __asm__ volatile("syscall" : "=a"(r) : "0"(12L) : "rcx", "r11", "memory"); return r; }' 'computes by syscall$'
 code 'void *malloc(unsigned long); void *room(unsigned long n) { return malloc(n); }' '^asks for malloc$'
 code 'static int calls; int next(void) { return ++calls; }' '^keeps data in .bss$'
