@@ -59,7 +59,7 @@ cargo = env $(addprefix -u ,$(unset)) CARGO_TARGET_DIR=../$(out)/rust ZUKEMORIHA
 help: ## this list
 	@sed -n 's/^\([a-z-]*\):.*## \(.*\)/  make \1\t\2/p' $(firstword $(MAKEFILE_LIST)) | expand -t 22
 
-run: ## prove and build the line program, and run it on its sample (two minutes)
+run: ## prove and build the line program, and run it on its sample (minutes)
 	$(build-lines)
 	$(lines) < examples/lines.in | tee target/lines.out
 	@diff examples/lines.out target/lines.out
