@@ -10,11 +10,12 @@ pub mod near;
 pub mod turns;
 
 ghost use Rattle.std.specs.Prelude.{◌≡◌, ◌%◌, ◌^◌, ◌≤◌};
-ghost use Rattle.division.specs.Divided.{divided_of};
+ghost use Rattle.division.specs.Divided.{divided_of, low_of};
 ghost use Rattle.division.specs.Divisions.{near_of, divisions_of};
 
 use crate::near::divide_near;
 use crate::turns::divide_turns;
+use reciprocals::Quotient;
 
 #[derive(Clone, Copy)]
 pub struct Divided {
@@ -22,10 +23,22 @@ pub struct Divided {
     pub quotient: u32,
 }
 
-// The same with the divisions by b. The making of its reciprocal is one.
+// The low bits of a whole quotient.
+impl From<Quotient> for Divided {
+    ghost from_gives = { λ q d. d ≡ low_of q };
+
+    fn from(whole: Quotient) -> Divided {
+        Divided {
+            remainder: whole.remainder,
+            quotient: (whole.quotient % 4294967296) as u32,
+        }
+    }
+}
+
+// What was found, with the divisions by b. The making of its reciprocal is one.
 #[derive(Clone, Copy)]
-pub struct Counted {
-    pub divided: Divided,
+pub struct Counted<T> {
+    pub value: T,
     pub divisions: u32,
 }
 
@@ -49,20 +62,20 @@ fn is_near(a: u64, b: u64, places: u32) -> bool
 }
 
 // a × 2^places by b: what is left, the quotient's low 32 bits, and how many divisions it took.
-pub fn divide_counted(a: u64, b: u64, places: u32) -> Counted
+pub fn divide_counted(a: u64, b: u64, places: u32) -> Counted<Divided>
     requires { 2 ^ 63 ≤ b }
-    ensures divided { result.divided ≡ divided_of a b places }
+    ensures divided { result.value ≡ divided_of a b places }
     ensures divisions { result.divisions ≡ divisions_of a b places }
 {
     if places <= u64::trailing_zeros(b) {
         return Counted {
-            divided: divide_once(a, b, places),
+            value: divide_once(a, b, places),
             divisions: 1,
         };
     }
     if is_near(a, b, places) {
         return Counted {
-            divided: divide_near(a, b, places),
+            value: divide_near(a, b, places),
             divisions: 3,
         };
     }
@@ -73,5 +86,5 @@ pub fn divide(a: u64, b: u64, places: u32) -> Divided
     requires { 2 ^ 63 ≤ b }
     ensures { result ≡ divided_of a b places }
 {
-    divide_counted(a, b, places).divided
+    divide_counted(a, b, places).value
 }

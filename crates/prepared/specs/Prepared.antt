@@ -1,14 +1,6 @@
 -- A prepared divisor, and powers of two modulo it. Nothing to believe: these only name the code's own values.
 use Rattle.std.specs.Prelude.{◌≡◌, ℕ, ◌+◌, ◌-◌, ◌*◌, ◌/◌, ◌%◌, ◌^◌, ◌<◌, ◌≤◌, List, length, slice_index}
 use Rattle.division.specs.declared.Divided.{Divided}
-use Rattle.prepared.specs.declared.Prepared.{Prepared}
-
--- a significand of 53 digits, with its reciprocal, or one less
-pub record Fits (d : Prepared) : Type 0 where
-  pub top : 2 ^ 52 ≤ d.significand
-  pub word : d.significand < 2 ^ 53
-  pub below : d.reciprocal * d.significand ≤ 2 ^ 116
-  pub above : 2 ^ 116 ≤ d.reciprocal * d.significand + d.significand
 
 -- k is 2 ^ (58 * j) modulo m, or one m more
 abbrev pub Power : ℕ → ℕ → ℕ → Type 0

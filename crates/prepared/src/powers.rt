@@ -1,10 +1,9 @@
 // Powers of two modulo a divisor, 58 places apart, in a table that is filled as far as they are wanted. The widest gap is 2045, and
 // (2045 - 4) / 58 is 35: there are 36 of them.
-ghost use Rattle.std.specs.Prelude.{◌≡◌, ◌+◌, ◌*◌, ◌%◌, ◌^◌, ◌<◌, ◌≤◌};
-ghost use Rattle.prepared.specs.Prepared.{Fits, Powers, slot_of};
+ghost use Rattle.std.specs.Prelude.{◌≡◌, ◌<◌, ◌≤◌};
+ghost use Rattle.prepared.specs.Prepared.{Powers, slot_of};
 
-use crate::{Prepared, REACH};
-use division::near::digit;
+use crate::modulus::Modulus;
 
 // The power that a number of places starts from. From the second one on 4 to 61 places are left: three of them tell what is shown of a
 // quotient, and with 61 no word overflows.
@@ -18,24 +17,13 @@ pub fn slot(places: u32) -> usize
     }
 }
 
-// 58 places more.
-fn next_power(power: u64, d: Prepared) -> u64
-    requires { Fits d × (power < d.significand + d.significand) }
-    ensures { (result < d.significand + d.significand) × (result % d.significand ≡ power * 2 ^ 58 % d.significand) }
+// The table with the powers up to the wanted one, and how many it then holds.
+pub fn extend(table: &mut [u64; 36], known: usize, wanted: usize, m: Modulus) -> usize
+    requires { Powers m.significand known table.old × (wanted < 36) }
+    ensures { Powers m.significand result table.new × (known ≤ result) × (wanted < result) }
 {
-    digit(power, 10, 58, d.significand, d.reciprocal, REACH).remainder
-}
-
-// The table with the powers up to the wanted one, and how many it holds.
-pub fn extend(table: &mut [u64; 36], known: usize, wanted: usize, d: Prepared) -> usize
-    requires { Fits d × Powers d.significand known table.old × (wanted < 36) }
-    ensures { Powers d.significand result table.new × (known ≤ result) × (wanted < result) }
-{
-    let mut n = known;
-    while n <= wanted {
-        let power = table[n - 1];
-        table[n] = next_power(power, d);
-        n += 1;
+    for n in known..wanted + 1 {
+        table[n] = m.next_power(table[n - 1]);
     }
-    n
+    known.max(wanted + 1)
 }

@@ -36,42 +36,6 @@ fn corrected(whole: u64, fraction: u64, rest: u64, d: u64) -> Quotient
     }
 }
 
-// hi × 2^64 + lo by d, whose reciprocal is v.
-pub fn divide_words(hi: u64, lo: u64, d: u64, v: u64) -> Quotient
-    requires { (hi < d) × (2 ^ 63 ≤ d) × (v ≡ reciprocal_of d) }
-    ensures { result ≡ quotient_of (hi * 2 ^ 64 + lo) d }
-{
-    let fraction = wrapping_add_u64(low(hi, v), lo);
-    let mut whole = high(hi, v) + hi;
-    if fraction < lo {
-        whole = whole + 1;
-    }
-    let rest = wrapping_sub_u64(lo, low(wrapping_add_u64(whole, 1), d));
-    corrected(whole, fraction, rest, d)
-}
-
-// hi × 2^64 by d. With nothing in the lower word the guess is at most one too small, and one correction is enough.
-pub fn divide_word(hi: u64, d: u64, v: u64) -> Quotient
-    requires { (hi < d) × (2 ^ 63 ≤ d) × (v ≡ reciprocal_of d) }
-    ensures { result ≡ quotient_of (hi * 2 ^ 64) d }
-{
-    let fraction = low(hi, v);
-    let whole = high(hi, v) + hi;
-    let next = wrapping_add_u64(whole, 1);
-    let rest = wrapping_sub_u64(0, low(next, d));
-    if fraction < rest {
-        Quotient {
-            quotient: whole,
-            remainder: wrapping_add_u64(rest, d),
-        }
-    } else {
-        Quotient {
-            quotient: next,
-            remainder: rest,
-        }
-    }
-}
-
 // hi × 2^32 + lo by d. x is the upper half of the reciprocal, with its leading one.
 fn divide_half(hi: u64, lo: u64, d: u64, x: u64) -> Quotient
     requires { (hi < d) × (lo < 2 ^ 32) × (2 ^ 63 ≤ d) × (x ≡ 2 ^ 32 + upper_of d) }
@@ -120,4 +84,66 @@ pub fn reciprocal(d: u64) -> u64
     let upper = upper_half(d);
     let lower = divide_half(upper.remainder, 4294967295, d, upper.quotient + 4294967296);
     upper.quotient * 4294967296 + lower.quotient
+}
+
+// A divisor with its reciprocal.
+#[derive(Clone, Copy)]
+pub struct Inverse {
+    pub divisor: u64,
+    pub reciprocal: u64,
+    pub ghost top: { 2 ^ 63 ≤ divisor },
+    pub ghost word: { divisor < 2 ^ 64 },
+    pub ghost is: { reciprocal ≡ reciprocal_of divisor },
+}
+
+impl Inverse {
+    pub fn new(d: u64) -> Self
+        requires { 2 ^ 63 ≤ d }
+        ensures { result.divisor ≡ d }
+    {
+        Inverse {
+            divisor: d,
+            reciprocal: reciprocal(d),
+        }
+    }
+
+    // hi × 2^64 + lo by the divisor.
+    pub fn divide_words(self, hi: u64, lo: u64) -> Quotient
+        requires { hi < self.divisor }
+        ensures { result ≡ quotient_of (hi * 2 ^ 64 + lo) self.divisor }
+    {
+        let d = self.divisor;
+        let v = self.reciprocal;
+        let fraction = wrapping_add_u64(low(hi, v), lo);
+        let mut whole = high(hi, v) + hi;
+        if fraction < lo {
+            whole = whole + 1;
+        }
+        let rest = wrapping_sub_u64(lo, low(wrapping_add_u64(whole, 1), d));
+        corrected(whole, fraction, rest, d)
+    }
+
+    // hi × 2^64 by the divisor. With nothing in the lower word the guess is at most one too small, and one correction is enough.
+    pub fn divide_word(self, hi: u64) -> Quotient
+        requires { hi < self.divisor }
+        ensures { result ≡ quotient_of (hi * 2 ^ 64) self.divisor }
+    {
+        let d = self.divisor;
+        let v = self.reciprocal;
+        let fraction = low(hi, v);
+        let whole = high(hi, v) + hi;
+        let next = wrapping_add_u64(whole, 1);
+        let rest = wrapping_sub_u64(0, low(next, d));
+        if fraction < rest {
+            Quotient {
+                quotient: whole,
+                remainder: wrapping_add_u64(rest, d),
+            }
+        } else {
+            Quotient {
+                quotient: next,
+                remainder: rest,
+            }
+        }
+    }
 }

@@ -15,12 +15,10 @@ pub fn divide_short(a: u64, b: u64, places: u32) -> Divided
     let first = a << (places % 40);
     let mut quotient = first / b;
     let mut rest = first % b;
-    let mut turns = places / 40;
-    while 0 < turns {
+    for _turn in 0..places / 40 {
         let shifted = rest << 40;
         quotient = shifted / b;
         rest = shifted % b;
-        turns -= 1;
     }
     Divided {
         remainder: rest,

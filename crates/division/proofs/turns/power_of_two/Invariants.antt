@@ -3,10 +3,6 @@ use Rattle.std.proofs.Common.{◌≡◌, ◌+◌, ◌/◌, ◌%◌, ◌^◌, ◌
 use Rattle.division.specs.Divisions.{squarings_of}
 use Rattle.division.proofs.turns.power_of_two.Given as goal
 
-abbrev pub invariant-loop-left : goal.invariant-loop-left
-invariant-loop-left l =
-    (l.left + l.divisions ≡ squarings_of l.e) × (l.power ≤ l.b) × (l.power % l.b ≡ 2 ^ (l.e / 2 ^ l.left) % l.b)
-
-abbrev pub decreases-loop-left : goal.decreases-loop-left
-decreases-loop-left l =
-    l.left
+abbrev pub invariant-loop-digit : goal.invariant-loop-digit
+invariant-loop-digit l =
+    (l.digit + l.divisions ≡ squarings_of l.e) × (l.power ≤ l.b.divisor) × (l.power % l.b.divisor ≡ 2 ^ (l.e / 2 ^ l.digit) % l.b.divisor)

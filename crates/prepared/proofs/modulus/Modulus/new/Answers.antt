@@ -1,9 +1,9 @@
--- `prepare` meets its contract.
+-- `Modulus::new` meets its contract.
 use Rattle.std.proofs.Common.{◌≡◌, ℕ, ◌+◌, ◌-◌, ◌*◌, ◌/◌, ◌%◌, ◌^◌, ◌<◌, ◌≤◌, refl, arith}
 use Rattle.reciprocals.specs.Reciprocal.{reciprocal_of}
 use Rattle.reciprocals.proofs.Quotients.{inverse, inverse_left}
 use Rattle.prepared.proofs.Halved.{halved_below, halved_above}
-use Rattle.prepared.proofs.prepare.Goals as goal
+use Rattle.prepared.proofs.modulus.Modulus.new.Goals as goal
 
 -- b and its reciprocal v
 module _ (b v : ℕ) (top : 2 ^ 63 ≤ b) (word : b < 2 ^ 64) (spare : b % 2 ^ 11 ≡ 0) (is : v ≡ reciprocal_of b) where
@@ -28,17 +28,15 @@ module _ (b v : ℕ) (top : 2 ^ 63 ≤ b) (word : b < 2 ^ 64) (spare : b % 2 ^ 1
   above : 2 ^ 116 ≤ (2 ^ 63 + v / 2) * (b / 2 ^ 11) + b / 2 ^ 11
   above = rw half at (halved_above (2 ^ 64 * 2 ^ 64) (2 ^ 116) (2 ^ 64 + v) b (b / 2 ^ 11) _ sum left whole refl)
 
-pub returns : goal.returns
-returns c =
+pub invariant_of-result : goal.invariant_of-result
+invariant_of-result c =
     let b = c.args.b in
     let v = c.reciprocal.result in
     let e = c.reciprocal.ensures in
-    let w = c.ranges.b.fits in (
-      omega arith,
-      record {
-        top = omega arith;
-        word = omega arith;
-        below = below b v c.requires.0 w c.requires.1 e;
-        above = above b v c.requires.0 w c.requires.1 e;
-      },
-    )
+    let w = c.ranges.b.fits in
+    record {
+      top = omega arith;
+      word = omega arith;
+      below = below b v c.requires.0 w c.requires.1 e;
+      above = above b v c.requires.0 w c.requires.1 e;
+    }

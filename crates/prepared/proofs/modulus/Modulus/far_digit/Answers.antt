@@ -4,7 +4,7 @@ use native.Mathlib.Nat.{mul-add-mod_self_right}
 use Rattle.digits.proofs.Common.{mod_times}
 use Rattle.division.proofs.Digits.{shifted_le}
 use Rattle.prepared.proofs.Shown.{shows_same}
-use Rattle.prepared.proofs.far_digit.Goals as goal
+use Rattle.prepared.proofs.modulus.Modulus.far_digit.Goals as goal
 
 -- its halves, which the code joins
 halves : (n hi lo : ℕ) → hi ≡ n / 2 ^ 64 → lo ≡ n % 2 ^ 64 → hi * 2 ^ 12 + lo / 2 ^ 52 ≡ n / 2 ^ 52
@@ -22,14 +22,14 @@ digit-requires c =
     c.digit-first.result.remainder + c.low-lower.result % 2 ^ 52
     in
     let divisor : ℕ =
-    c.args.d.significand
+    c.args.self.significand
     in
     let rest_small : rest < 2 ^ 55 =
-    rest_small_go c.digit-first.result.remainder divisor c.low-lower.result c.digit-first.ensures.1 c.requires.0.word
+    rest_small_go c.digit-first.result.remainder divisor c.low-lower.result c.digit-first.ensures.1 c.args.self.word
     in
-    let f = c.requires.0 in
+    let f = c.args.self in
     let l = rest_small in
-    (omega arith, c.requires.4, lit< {m = 61} {n = 64} tt, shifted_le rest 55 c.args.shift 61 l c.requires.4, f.below, f.above, f.word)
+    (omega arith, c.requires.3, lit< {m = 61} {n = 64} tt, shifted_le rest 55 c.args.shift 61 l c.requires.3, f.below, f.above, f.word)
 
 -- a times what is the power modulo m
 times-same : (a n p m : ℕ) → n % m ≡ p % m → a * n % m ≡ a * p % m
@@ -39,7 +39,7 @@ times-same a n p m e =
 pub returns : goal.returns
 returns c =
     let divisor : ℕ =
-    c.args.d.significand
+    c.args.self.significand
     in
     let rest : ℕ =
     c.digit-first.result.remainder + c.low-lower.result % 2 ^ 52
@@ -58,9 +58,9 @@ returns c =
     sym (mul-add-mod_self_right c.digit-first.result.quotient divisor rest) ∙ ap (λ (k : ℕ). k % divisor) rest_is
     in
     let m = divisor in
-    let some : 0 < m = lt_of_lt_of_le (pow_pos 52) c.requires.0.top in (
+    let some : 0 < m = lt_of_lt_of_le (pow_pos 52) c.args.self.top in (
       λ n e.
-          shows_same (c.args.a * n) rest m c.args.shift c.digit.result.quotient c.digit.result.remainder some c.requires.3
+          shows_same (c.args.a * n) rest m c.args.shift c.digit.result.quotient c.digit.result.remainder some c.requires.2
           (times-same c.args.a n c.args.power m e ∙ sym rest_same) c.digit.ensures.0,
       c.digit.ensures.1,
     )
