@@ -1,4 +1,5 @@
 -- Roundings, lists, blocks and lines, computed from the definitions. Assumes nothing.
+use Rattle.std.specs.Prelude.{Ok, Err}
 use mathlib.Core.Path.{◌≡◌, refl}
 use mathlib.Core.Bool.{true, false, cond}
 use mathlib.Core.List.{List, [], ◌∷◌, map}
@@ -26,11 +27,7 @@ use Rattle.definitions.specs.Fold.{Folded, fold_list}
 use Rattle.definitions.specs.declared.Refusal.{Refusal}
 use Rattle.definitions.specs.declared.Refusal.TheVariants as why
 use Rattle.definitions.specs.declared.Pattern.{Pattern}
-use Rattle.definitions.specs.declared.RemainderAnswer.TheVariants as rem
-use Rattle.definitions.specs.declared.SignedAnswer.TheVariants as sgn
-use Rattle.definitions.specs.declared.StepsAnswer.TheVariants as steps
-use Rattle.definitions.specs.declared.ScaleAnswer.TheVariants as scale
-use Rattle.definitions.specs.declared.SplitAnswer.TheVariants as split
+use Rattle.definitions.specs.declared.Progress.TheVariants.{Finished, Unfinished}
 use Rattle.definitions.specs.Answers.{refusal_number, remainder_meaning, signed_meaning, steps_meaning, step_meaning, run_meaning, scale_meaning, split_meaning}
 use Rattle.definitions.specs.Block.{kind_of, block_after}
 use Rattle.definitions.specs.Line.{is_hex, digit_of, line_for, output_for}
@@ -170,25 +167,25 @@ kinds = (refl, λ k. rw (not_zero (suc k) (omega arith)))
 -- the fields of an answer are told as they are, whatever the pattern v: the bits of v, and no other pattern of its value
 pub meanings : (v : Pattern) (q n : ℕ) (r : Rounding) (e : ℤ)
     → let b = v.high * 2 ^ 64 + v.low in
-    (remainder_meaning (rem.Finished v q) ≡ record { number = 0; value = b; quotient = q })
-    × (signed_meaning (sgn.Finished v e) ≡ record { number = 0; value = b; quotient = e })
-    × (step_meaning (steps.Finished v q n) ≡ record { number = 0; value = b; quotient = q; steps = n })
-    × (step_meaning (steps.Unfinished v q n) ≡ record { number = 1; value = b; quotient = q; steps = n })
-    × (run_meaning (steps.Finished v q n) ≡ record { number = 0; value = b; quotient = q; steps = n })
-    × (run_meaning (steps.Unfinished v q n) ≡ record { number = 7; value = b; quotient = q; steps = n })
-    × (scale_meaning (scale.Scaled v r) ≡ record { number = 0; value = b; says = r })
-    × (split_meaning (split.Parts v e) ≡ record { number = 0; significand = b; exponent = e })
+    (remainder_meaning (Ok (record { value = v; quotient = q })) ≡ record { number = 0; value = b; quotient = q })
+    × (signed_meaning (Ok (record { value = v; quotient = e })) ≡ record { number = 0; value = b; quotient = e })
+    × (step_meaning (Ok (Finished (record { value = v; quotient = q; steps = n }))) ≡ record { number = 0; value = b; quotient = q; steps = n })
+    × (step_meaning (Ok (Unfinished (record { value = v; quotient = q; steps = n }))) ≡ record { number = 1; value = b; quotient = q; steps = n })
+    × (run_meaning (Ok (Finished (record { value = v; quotient = q; steps = n }))) ≡ record { number = 0; value = b; quotient = q; steps = n })
+    × (run_meaning (Ok (Unfinished (record { value = v; quotient = q; steps = n }))) ≡ record { number = 7; value = b; quotient = q; steps = n })
+    × (scale_meaning (Ok (record { value = v; says = r })) ≡ record { number = 0; value = b; says = r })
+    × (split_meaning (Ok (record { significand = v; exponent = e })) ≡ record { number = 0; significand = b; exponent = e })
 unfolding remainder_meaning signed_meaning steps_meaning scale_meaning split_meaning
 meanings v q n r e = (refl, refl, refl, refl, refl, refl, refl, refl)
 
 -- [7.5] and those of a refusal: its number and its value, and nothing else
 pub refused_meanings : (w : Refusal) (v : Pattern) (u : ℕ)
     → let b = v.high * 2 ^ 64 + v.low in
-    (remainder_meaning (rem.Refused w v) ≡ record { number = refusal_number w; value = b; quotient = 0 })
-    × (signed_meaning (sgn.Refused w v) ≡ record { number = refusal_number w; value = b; quotient = pos 0 })
-    × (steps_meaning u (steps.Refused w v) ≡ record { number = refusal_number w; value = b; quotient = 0; steps = 0 })
-    × (scale_meaning (scale.Refused w v) ≡ record { number = refusal_number w; value = b; says = Exact })
-    × (split_meaning (split.Refused w v) ≡ record { number = refusal_number w; significand = b; exponent = pos 0 })
+    (remainder_meaning (Err (record { why = w; value = v })) ≡ record { number = refusal_number w; value = b; quotient = 0 })
+    × (signed_meaning (Err (record { why = w; value = v })) ≡ record { number = refusal_number w; value = b; quotient = pos 0 })
+    × (steps_meaning u (Err (record { why = w; value = v })) ≡ record { number = refusal_number w; value = b; quotient = 0; steps = 0 })
+    × (scale_meaning (Err (record { why = w; value = v })) ≡ record { number = refusal_number w; value = b; says = Exact })
+    × (split_meaning (Err (record { why = w; value = v })) ≡ record { number = refusal_number w; significand = b; exponent = pos 0 })
 unfolding remainder_meaning signed_meaning steps_meaning scale_meaning split_meaning
 refused_meanings w v u = (refl, refl, refl, refl, refl)
 

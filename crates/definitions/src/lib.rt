@@ -1,16 +1,18 @@
-// The words that the code and the definitions share. There is no code here: specs/ is what a reader has to believe, and
+// The words that the code and the definitions share. Code here only tells numbers: specs/ is what a reader has to believe, and
 // specs/Answers.antt gives the number and the values of each case of each answer below.
 #![tactic(auto)]
 
+mod numbers;
+
 // Which whole number the quotient is taken as.
-#[derive(Clone, Copy)]
+#[derive(Clone, Copy, PartialEq, Eq)]
 pub enum Kind {
     Truncated,
     Nearest,
 }
 
 // Whether the leading digit of a significand is left out of its pattern or stands in it.
-#[derive(Clone, Copy)]
+#[derive(Clone, Copy, PartialEq, Eq)]
 pub enum Layout {
     Hidden,
     Explicit,
@@ -24,17 +26,16 @@ pub struct Pattern {
     pub low: u64,
 }
 
-// How a scaled value compares with the exact one, in magnitude.
-#[derive(Clone, Copy)]
+// How a rounded value compares with the exact one, in magnitude.
+#[derive(Clone, Copy, PartialEq, Eq)]
 pub enum Rounding {
     Exact,
     Up,
     Down,
 }
 
-// Why a call is refused. An answer that is a refusal says with it what is returned as its value: under Nan that NaN, made quiet, and else
-// the house NaN.
-#[derive(Clone, Copy)]
+// Why a call is refused.
+#[derive(Clone, Copy, PartialEq, Eq)]
 pub enum Refusal {
     BadLength,
     BadSize,
@@ -45,80 +46,52 @@ pub enum Refusal {
     ZeroSplit,
 }
 
-// The remainder of two patterns.
+// A refused call, with what is returned as its value: under Nan that NaN, made quiet, and else the house NaN.
 #[derive(Clone, Copy)]
-pub enum RemainderAnswer {
-    Finished { value: Pattern, quotient: u32 },
-    Refused { why: Refusal, value: Pattern },
+pub struct Refused {
+    pub why: Refusal,
+    pub value: Pattern,
 }
 
-// The same, the quotient with the sign of x/y.
+// A remainder and its quotient: 31 bits of it in a u32, or in an i32 with the sign of x/y.
 #[derive(Clone, Copy)]
-pub enum SignedAnswer {
-    Finished { value: Pattern, quotient: i32 },
-    Refused { why: Refusal, value: Pattern },
+pub struct Residue<Q> {
+    pub value: Pattern,
+    pub quotient: Q,
 }
 
-// A step, or a run of steps. An unfinished step was partial, and an unfinished run has spent its budget.
+// What a step, or a run of steps, has reached.
 #[derive(Clone, Copy)]
-pub enum StepsAnswer {
-    Finished {
-        value: Pattern,
-        quotient: u32,
-        steps: u32,
-    },
-    Unfinished {
-        value: Pattern,
-        quotient: u32,
-        steps: u32,
-    },
-    Refused {
-        why: Refusal,
-        value: Pattern,
-    },
+pub struct Reached {
+    pub value: Pattern,
+    pub quotient: u32,
+    pub steps: u32,
 }
 
-// A value scaled by a power of two.
+// An unfinished step was partial, and an unfinished run has spent its budget.
 #[derive(Clone, Copy)]
-pub enum ScaleAnswer {
-    Scaled { value: Pattern, says: Rounding },
-    Refused { why: Refusal, value: Pattern },
+pub enum Progress<T> {
+    Finished(T),
+    Unfinished(T),
+}
+
+// A value that was rounded, and how.
+#[derive(Clone, Copy)]
+pub struct WithRounding<T> {
+    pub value: T,
+    pub says: Rounding,
 }
 
 // A value split into a significand from 1 to below 2 and an exponent.
 #[derive(Clone, Copy)]
-pub enum SplitAnswer {
-    Parts { significand: Pattern, exponent: i32 },
-    Refused { why: Refusal, value: Pattern },
+pub struct Split {
+    pub significand: Pattern,
+    pub exponent: i32,
 }
 
-// What the calls on patterns tell: their answers, and whether an operand as it was given is denormal. Under BadSize that is no.
+// What the calls on patterns tell: their answer, and whether an operand as it was given is denormal. Under BadSize that is no.
 #[derive(Clone, Copy)]
-pub struct RemainderTold {
-    pub answer: RemainderAnswer,
-    pub denormal: bool,
-}
-
-#[derive(Clone, Copy)]
-pub struct SignedTold {
-    pub answer: SignedAnswer,
-    pub denormal: bool,
-}
-
-#[derive(Clone, Copy)]
-pub struct StepsTold {
-    pub answer: StepsAnswer,
-    pub denormal: bool,
-}
-
-#[derive(Clone, Copy)]
-pub struct ScaleTold {
-    pub answer: ScaleAnswer,
-    pub denormal: bool,
-}
-
-#[derive(Clone, Copy)]
-pub struct SplitTold {
-    pub answer: SplitAnswer,
+pub struct Told<T> {
+    pub answer: Result<T, Refused>,
     pub denormal: bool,
 }

@@ -30,3 +30,4 @@ pub mod Line
 pub mod Stem
 pub mod StemWriter
 pub mod Folded
+pub mod Lent
