@@ -1,4 +1,5 @@
 -- What a verdict says of the classes that were judged: an accepted pair is a finite dividend and a divisor that is not zero. Assumes nothing.
+use Rattle.std.specs.Prelude.{Result, Ok, Err}
 use mathlib.Core.Path.{◌≡◌, refl, sym, ap, ◌∙◌}
 use mathlib.Core.Bool.{Bool, true, false, cond, ◌||◌}
 use mathlib.Core.List.{List, ◌∷◌}
@@ -17,8 +18,6 @@ use Rattle.operands.proofs.Lead.{by_count}
 use Rattle.digits.proofs.Tests.{not_zero, clash}
 use Rattle.laws.proofs.Refusals.{refusal_refuses}
 use Rattle.checks.specs.Verdict.{verdict_number, unsupported_operand, nan_operand, infinite_operand, zero_operand}
-use Rattle.checks.specs.declared.Verdict.{Verdict}
-use Rattle.checks.specs.declared.Verdict.TheVariants.{Accepted, Refused}
 
 -- the tests on an operand are those on its class
 module _ (s : ℤ) where
@@ -76,10 +75,10 @@ pub refusal_some : (w : Refusal) → eqb (refusal_number w) 0 ≡ false
 refusal_some w = (neither _ _ (neither _ _ (refusal_refuses w)).0).0
 
 -- the number that a verdict gives
-pub refused_number : (r : Verdict) (w : Refusal) (n : ℕ) → r ≡ Refused w → verdict_number r ≡ n → n ≡ refusal_number w
+pub refused_number : (r : Result Unit Refusal) (w : Refusal) (n : ℕ) → r ≡ Err w → verdict_number r ≡ n → n ≡ refusal_number w
 refused_number r w n p e = sym e ∙ ap verdict_number p
 
-pub accepted_number : (r : Verdict) (n : ℕ) → r ≡ Accepted → verdict_number r ≡ n → n ≡ 0
+pub accepted_number : (r : Result Unit Refusal) (n : ℕ) → r ≡ Ok tt → verdict_number r ≡ n → n ≡ 0
 accepted_number r n p e = sym e ∙ ap verdict_number p
 
 -- where the number is 0, no check of the list applies

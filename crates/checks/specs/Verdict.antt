@@ -1,14 +1,13 @@
 -- What the checks of the code come to, as numbers, and what they look at. Nothing to believe: these only name the code's own values.
-use Rattle.std.specs.Prelude.{ℕ, Bool, true, false}
+use Rattle.std.specs.Prelude.{ℕ, Bool, true, false, Result, Ok, Err}
+use Rattle.definitions.specs.declared.Refusal.{Refusal}
 use Rattle.definitions.specs.Answers.{refusal_number}
 use Rattle.operands.specs.declared.Operand.{Operand}
 use Rattle.operands.specs.declared.Operand.TheVariants.{Unsupported, Nan, Infinite, Zero, Finite}
-use Rattle.checks.specs.declared.Verdict.{Verdict}
-use Rattle.checks.specs.declared.Verdict.TheVariants.{Accepted, Refused}
 
-abbrev pub verdict_number : Verdict → ℕ
-verdict_number Accepted = 0
-verdict_number (Refused w) = refusal_number w
+abbrev pub verdict_number : Result Unit Refusal → ℕ
+verdict_number (Ok a) = 0
+verdict_number (Err w) = refusal_number w
 
 abbrev pub unsupported_operand : Operand → Bool
 unsupported_operand Unsupported = true

@@ -6,19 +6,19 @@ ghost use Rattle.definitions.specs.Fold.{dividing_list};
 ghost use Rattle.operands.specs.Operand.{operand_of};
 ghost use Rattle.checks.specs.Verdict.{verdict_number};
 
-use crate::{Verdict, is_nan, is_zero};
+use crate::{is_nan, is_zero};
 use definitions::Refusal;
 use operands::Operand;
 
 // The divisor of a whole list: 3 and 5.
-pub fn judge_divisor(y: Operand) -> Verdict
+pub fn judge_divisor(y: Operand) -> Result<(), Refusal>
     ensures { (s : ℤ) (b : Class) → y ≡ operand_of s b → verdict_number result ≡ first (dividing_list b) }
 {
     if is_nan(y) {
-        return Verdict::Refused(Refusal::Nan);
+        return Err(Refusal::Nan);
     }
     if is_zero(y) {
-        return Verdict::Refused(Refusal::ZeroDivisor);
+        return Err(Refusal::ZeroDivisor);
     }
-    Verdict::Accepted
+    Ok(())
 }

@@ -10,9 +10,10 @@ use Rattle.shapes.specs.declared.fields.Fields.{Fields}
 use Rattle.shapes.specs.Shape.{fields_in}
 
 module _ (f : Format) (b : ℕ) (r : Fields) (is : r ≡ fields_in f b) where
-  pub field_none : r.field ≡ 0 → not (eqb r.stored 0) ≡ denormal f b
+  -- the stored significand is found, however the code writes it
+  pub field_none : r.field ≡ 0 → (t : ℕ) → t ≡ r.stored → not (eqb t 0) ≡ denormal f b
   unfolding denormal
-  field_none e = rw (is, eq-eqb _ 0 (rw is at e))
+  field_none e t same = rw (same, is, eq-eqb _ 0 (rw is at e))
 
   pub field_some : (r.field ≡ 0 → ⊥) → false ≡ denormal f b
   unfolding denormal

@@ -13,8 +13,7 @@ use Rattle.definitions.specs.declared.Refusal.TheVariants as why
 use Rattle.operands.specs.declared.Operand.{Operand}
 use Rattle.operands.specs.declared.Operand.TheVariants.{Unsupported, Nan, Infinite, Zero, Finite}
 use Rattle.operands.specs.Operand.{operand_of, class_in}
-use Rattle.shapes.specs.declared.shape.Shape.{Shape}
-use Rattle.shapes.specs.Shape.{format_of, shape_of, Sound}
+use Rattle.shapes.specs.Shape.{Sound}
 use Rattle.packing.specs.Stands.{Stands}
 use Rattle.packing.proofs.Standing.{class_pattern}
 use Rattle.facts.specs.Chosen.{chosen_operand}
@@ -104,10 +103,9 @@ module _ (f : Format) (x y o : Operand) (is : o ≡ chosen_operand x y) where
       go (Finite u) l = refl
 
 -- the NaN of the operands of two patterns is that of the patterns
-module _ (f : Format) (ok : Sound f) (h : Shape) (of : h ≡ shape_of f) (x y : ℕ) (o p : Operand)
-    (ox : o ≡ operand_of f.smallest (class_of f x)) (py : p ≡ operand_of f.smallest (class_of f y)) where
-  pub patterns_nan : (b : ℕ) → b ≡ nan_of (format_of h) (class_in h.smallest o) (class_in h.smallest p) → b ≡ nan_of f (class_of f x) (class_of f y)
-  patterns_nan b e = (rw of at e) ∙ (λ i. nan_of f (class_pattern f ok x o ox i) (class_pattern f ok y p py i))
+module _ (f : Format) (ok : Sound f) (x y : ℕ) (o p : Operand) (ox : o ≡ operand_of f.smallest (class_of f x)) (py : p ≡ operand_of f.smallest (class_of f y)) where
+  pub patterns_nan : nan_of f (class_in f.smallest o) (class_in f.smallest p) ≡ nan_of f (class_of f x) (class_of f y)
+  patterns_nan i = nan_of f (class_pattern f ok x o ox i) (class_pattern f ok y p py i)
 
 -- what a refusal that is not 3 returns
 pub other_value : (f : Format) (x y : Class) (w : Refusal) → (w ≡ why.Nan → ⊥) → house_nan f ≡ refused_value f (refusal_number w) x y

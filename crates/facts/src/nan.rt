@@ -1,45 +1,36 @@
-// The NaN that a refusal returns. Only crates of this repository call these, with operands as `unpack` makes them.
+// The NaN that a refusal returns, of operands.
 ghost use Rattle.std.specs.Prelude.{◌≡◌};
 ghost use Rattle.definitions.specs.Format.{NanStored};
 ghost use Rattle.definitions.specs.Facts.{quieted, nan_of, refused_value};
 ghost use Rattle.definitions.specs.Answers.{joined, refusal_number};
 ghost use Rattle.operands.specs.Operand.{class_in};
-ghost use Rattle.shapes.specs.Shape.{format_of, Sound};
-ghost use Rattle.packing.specs.Stands.{Stands};
 ghost use Rattle.facts.specs.Chosen.{chosen_operand};
 
-use definitions::{Pattern, Refusal};
+use definitions::{Pattern, Refusal, Refused};
 use operands::Operand;
+use packing::held::Held;
 use packing::pack::{house_nan, pack};
-use shapes::shape::{Shape, leading_weight};
+use shapes::format::{Format, leading_weight};
 
 // Of two operands the NaN, and of two NaNs the one with the larger significand, as it is stored; the dividend's where they are equal.
 fn choose(x: Operand, y: Operand) -> Operand
     ensures { result ≡ chosen_operand x y }
 {
-    let Operand::Nan {
-        negative: _,
-        stored: s,
-    } = x
-    else {
+    let Operand::Nan { stored: s, .. } = x else {
         return y;
     };
-    let Operand::Nan {
-        negative: _,
-        stored: t,
-    } = y
-    else {
+    let Operand::Nan { stored: t, .. } = y else {
         return x;
     };
     if s < t { y } else { x }
 }
 
 // A NaN's significand with the first digit behind its leading one.
-fn quiet(shape: Shape, stored: u64) -> u64
-    requires { Sound (format_of shape) × NanStored (format_of shape) stored }
-    ensures { result ≡ quieted (format_of shape) stored }
+fn quiet<F: Format>(stored: u64) -> u64
+    requires { NanStored F.format stored }
+    ensures { result ≡ quieted F.format stored }
 {
-    let digit = leading_weight(shape) / 2;
+    let digit = leading_weight::<F>() / 2;
     if stored / digit % 2 == 1 {
         stored
     } else {
@@ -48,28 +39,28 @@ fn quiet(shape: Shape, stored: u64) -> u64
 }
 
 // The NaN of two operands, made quiet; the house NaN where neither is one.
-pub fn nan_of(shape: Shape, x: Operand, y: Operand) -> Pattern
-    requires { Sound (format_of shape) × Stands (format_of shape) x × Stands (format_of shape) y }
-    ensures { joined result ≡ nan_of (format_of shape) (class_in shape.smallest x) (class_in shape.smallest y) }
+pub fn nan_of<F: Format>(x: Held<F>, y: Held<F>) -> Pattern
+    ensures { joined result ≡ nan_of F.format (class_in F.format.smallest x) (class_in F.format.smallest y) }
 {
-    let Operand::Nan { negative, stored } = choose(x, y) else {
-        return house_nan(shape);
+    let Operand::Nan { negative, stored } = choose(x.operand(), y.operand()) else {
+        return house_nan::<F>();
     };
     let made = Operand::Nan {
         negative,
-        stored: quiet(shape, stored),
+        stored: quiet::<F>(stored),
     };
-    pack(shape, made)
+    pack(Held::<F>::new(made))
 }
 
-// What a refusal of two operands returns as its value.
-pub fn refused_value(shape: Shape, why: Refusal, x: Operand, y: Operand) -> Pattern
-    requires { Sound (format_of shape) × Stands (format_of shape) x × Stands (format_of shape) y }
-    ensures { joined result ≡ refused_value (format_of shape) (refusal_number why) (class_in shape.smallest x) (class_in shape.smallest y) }
+// A refusal of two operands, with what it returns as its value.
+pub fn refused<F: Format>(why: Refusal, x: Held<F>, y: Held<F>) -> Refused
+    ensures why { result.why ≡ why }
+    ensures value { joined result.value ≡ refused_value F.format (refusal_number why) (class_in F.format.smallest x) (class_in F.format.smallest y) }
 {
-    if let Refusal::Nan = why {
-        nan_of(shape, x, y)
+    let value = if why == Refusal::Nan {
+        nan_of(x, y)
     } else {
-        house_nan(shape)
-    }
+        house_nan::<F>()
+    };
+    Refused { why, value }
 }

@@ -1,11 +1,10 @@
 -- What an operand and a divisor are that the code has found not to be an unpacked value: one of the other cases. Assumes nothing.
+use Rattle.std.specs.Prelude.{Option, None, Some}
 use mathlib.Core.Path.{◌≡◌, refl}
 use mathlib.Core.Bool.{Bool}
 use Prim.Native.Nat.{ℕ}
 use Rattle.operands.specs.declared.Operand.{Operand}
 use Rattle.operands.specs.declared.Unpacked.{Unpacked}
-use Rattle.operands.specs.declared.Divisor.{Divisor}
-use Rattle.operands.specs.declared.Divisor.TheVariants.{Unbounded, By}
 use Rattle.operands.specs.declared.Operand.TheVariants.{Unsupported, Nan, Infinite, Zero, Finite}
 
 pub other_cases : (P : Operand → Type 0) → P Unsupported → ((n : Bool) (s : ℕ) → P (Nan n s)) → ((n : Bool) → P (Infinite n)) → ((n : Bool) → P (Zero n))
@@ -16,6 +15,6 @@ other_cases P u q i z (Infinite n) k = i n
 other_cases P u q i z (Zero n) k = z n
 other_cases P u q i z (Finite v) k = absurd (k v refl)
 
-pub other_unbounded : (d : Divisor) → ((u : Unpacked) → d ≡ By u → ⊥) → d ≡ Unbounded
-other_unbounded Unbounded k = refl
-other_unbounded (By u) k = absurd (k u refl)
+pub other_unbounded : (d : Option Unpacked) → ((u : Unpacked) → d ≡ Some u → ⊥) → d ≡ None
+other_unbounded None k = refl
+other_unbounded (Some u) k = absurd (k u refl)

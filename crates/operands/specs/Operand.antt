@@ -1,5 +1,5 @@
 -- How the code holds an operand. Nothing to believe: these only name the code's own values, so that contracts can be equations.
-use Rattle.std.specs.Prelude.{ℕ, ◌-◌, ◌*◌, ◌/◌, ◌^◌, ◌≤◌, ◌<◌, ◌≡◌, Bool, cond, eqb, ℤ, pos, nat_abs, ◌+ℤ◌, ◌-ℤ◌}
+use Rattle.std.specs.Prelude.{ℕ, ◌-◌, ◌*◌, ◌/◌, ◌^◌, ◌≤◌, ◌<◌, ◌≡◌, Bool, cond, eqb, ℤ, pos, nat_abs, ◌+ℤ◌, ◌-ℤ◌, Option, None, Some}
 use Rattle.std.specs.Int.Count.{count_leading_zeros}
 use Rattle.std.specs.Int.Signed.{mag}
 use Rattle.std.specs.Float.Ieee.{size}
@@ -10,8 +10,6 @@ use Rattle.definitions.specs.Division.{dividend_of}
 use Rattle.operands.specs.declared.Unpacked.{Unpacked}
 use Rattle.operands.specs.declared.Operand.{Operand}
 use Rattle.operands.specs.declared.Operand.TheVariants.{Unsupported, Nan, Infinite, Zero, Finite}
-use Rattle.operands.specs.declared.Divisor.{Divisor}
-use Rattle.operands.specs.declared.Divisor.TheVariants.{Unbounded, By}
 
 -- a nonzero value with its leading one at bit 63, and its exponent, where the smallest place is 2 ^ s
 unfoldable pub unpacked_of : ℤ → Value → Unpacked
@@ -47,12 +45,12 @@ normal_of n a e =
     cond (eqb a 0) (Zero n) (Finite (record { negative = n; significand = a * 2 ^ count_leading_zeros 64 a; exponent = e -ℤ pos (count_leading_zeros 64 a) }))
 
 -- what an operand divides by, as the code holds it
-abbrev pub divisor_operand : Operand → Divisor
-divisor_operand Unsupported = Unbounded
-divisor_operand (Nan n t) = Unbounded
-divisor_operand (Infinite n) = Unbounded
-divisor_operand (Zero n) = Unbounded
-divisor_operand (Finite u) = By u
+abbrev pub divisor_operand : Operand → Option Unpacked
+divisor_operand Unsupported = None
+divisor_operand (Nan n t) = None
+divisor_operand (Infinite n) = None
+divisor_operand (Zero n) = None
+divisor_operand (Finite u) = Some u
 
 -- the value of an unpacked operand, of any operand, and what is divided by
 abbrev pub value_in : ℤ → Unpacked → Value
@@ -61,9 +59,9 @@ value_in s u = record { negative = u.negative; count = count_in s u.significand 
 abbrev pub value_operand : ℤ → Operand → Value
 value_operand s o = dividend_of (class_in s o)
 
-abbrev pub divisor_in : ℤ → Divisor → division.Divisor
-divisor_in s Unbounded = division.unbounded
-divisor_in s (By u) = division.by (value_in s u).count
+abbrev pub divisor_in : ℤ → Option Unpacked → division.Divisor
+divisor_in s None = division.unbounded
+divisor_in s (Some u) = division.by (value_in s u).count
 
 -- an operand as `unpack` makes it: a leading one at bit 63, and an exponent that is within every format's range
 pub record Ready (u : Unpacked) : Type 0 where

@@ -62,19 +62,13 @@ pub fn place_of(exponent: i32, smallest: i32) -> u32
     (exponent - smallest) as u32
 }
 
-// What an operand is divided by. An infinite divisor takes nothing off.
-#[derive(Clone, Copy)]
-pub enum Divisor {
-    Unbounded,
-    By(Unpacked),
-}
-
-// The divisor that an operand is; one that is refused as a divisor is not looked at.
-pub fn divisor_of(y: Operand) -> Divisor
+// What an operand is divided by: the finite value that it is, or nothing, as an infinite divisor takes nothing off. A divisor that is
+// refused is not looked at.
+pub fn divisor_of(y: Operand) -> Option<Unpacked>
     ensures { result ≡ divisor_operand y }
 {
     let Operand::Finite(value) = y else {
-        return Divisor::Unbounded;
+        return None;
     };
-    Divisor::By(value)
+    Some(value)
 }

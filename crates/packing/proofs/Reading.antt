@@ -45,7 +45,13 @@ module _ (f : Format) (ok : Sound f) (b : ℕ) (r : Fields) (is : r ≡ fields_i
       (normal_operand f.smallest r.negative r.stored 63 (r.stored * 2 ^ 0) (omega (arith, significand_word f ok r.stored stored_small)) (omega arith))
 
   -- another field: the significand with what the pattern leaves out of it
-  module _ (s : ℕ) (whole : s ≡ hidden_part f.layout (leading f) + r.stored) (above : r.field ≡ 0 → ⊥) where
+  module _ (h : ℕ) (left_out : h ≡ hidden_part f.layout (leading f)) (above : r.field ≡ 0 → ⊥) where
+    abbrev s : ℕ
+    s = h + r.stored
+
+    whole : s ≡ hidden_part f.layout (leading f) + r.stored
+    whole = ap (λ (i : ℕ). i + r.stored) left_out
+
     as_suc : r.field ≡ suc (r.field - 1)
     as_suc = go r.field above
       where
@@ -55,35 +61,35 @@ module _ (f : Format) (ok : Sound f) (b : ℕ) (r : Fields) (is : r ≡ fields_i
 
     pub unnormal : s < leading f → Unsupported ≡ operand_of f.smallest (class_of f b)
     unfolding operand_of
-    unnormal h = rw (class_is, as_suc, unnormal_read f.layout f r.negative (r.field - 1) r.stored (omega arith))
+    unnormal l = rw (class_is, as_suc, unnormal_read f.layout f r.negative (r.field - 1) r.stored (rw whole at l))
 
     module _ (leads : leading f ≤ s) where
       module _ (top : r.field ≡ top_field f) where
         pub infinite_top : s ≡ leading f → Infinite r.negative ≡ operand_of f.smallest (class_of f b)
         unfolding operand_of
-        infinite_top h =
+        infinite_top e =
             rw (
               class_is,
               top,
-              top_read f.layout f r.negative r.stored (omega arith),
-              eq-eqb r.stored (infinity f.layout (leading f)) (omega (arith, hidden_infinity f.layout (leading f))),
+              top_read f.layout f r.negative r.stored (rw whole at leads),
+              eq-eqb r.stored (infinity f.layout (leading f)) (omega (arith, whole, hidden_infinity f.layout (leading f))),
             )
 
         pub nan_top : (s ≡ leading f → ⊥) → Nan r.negative r.stored ≡ operand_of f.smallest (class_of f b)
         unfolding operand_of
-        nan_top h =
+        nan_top k =
             rw (
               class_is,
               top,
-              top_read f.layout f r.negative r.stored (omega arith),
-              ne_eqb r.stored (infinity f.layout (leading f)) (λ q. h (omega (arith, hidden_infinity f.layout (leading f)))),
+              top_read f.layout f r.negative r.stored (rw whole at leads),
+              ne_eqb r.stored (infinity f.layout (leading f)) (λ q. k (omega (arith, whole, hidden_infinity f.layout (leading f)))),
             )
 
       pub high : (r.field ≡ top_field f → ⊥) → normal_of r.negative s (f.smallest +ℤ pos (r.field - 1 + 63)) ≡ operand_of f.smallest (class_of f b)
-      high h =
+      high k =
           let j = r.field - 1 in
           let m : s * 2 ^ (j + 63) ≡ s * 2 ^ j * 2 ^ 63 = ap (λ (p : ℕ). s * p) (pow-add 2 j 63) ∙ sym (mul_assoc s (2 ^ j) (2 ^ 63)) in
-          let below : suc j < top_field f = rw (← as_suc) (lt_of_le-ne field_le h) in
+          let below : suc j < top_field f = rw (← as_suc) (lt_of_le-ne field_le k) in
           normal_operand f.smallest r.negative s (j + 63) (s * 2 ^ j) (rw whole (significand_word f ok r.stored stored_small)) m
           ∙ ap (operand_of f.smallest) (sym (class_is ∙ ap (λ (e : ℕ). fields_class f.layout f r.negative e r.stored) as_suc
-          ∙ high_read f.layout f r.negative j r.stored below (omega arith) ∙ ap (number r.negative j) (sym whole)))
+          ∙ high_read f.layout f r.negative j r.stored below (rw whole at leads) ∙ ap (number r.negative j) (sym whole)))

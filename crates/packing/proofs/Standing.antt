@@ -1,4 +1,5 @@
 -- Operands that stand for what a format holds: where they come from, and that they are within the code's range. Assumes nothing.
+use Rattle.std.specs.Prelude.{Option, None, Some}
 use mathlib.Core.Path.{◌≡◌, refl, sym, ap, ◌∙◌, subst}
 use mathlib.Core.Bool.{Bool, true, false, not, cond}
 use Prim.Native.Nat.{ℕ, suc, ◌+◌, ◌-◌, ◌^◌, ◌≤◌, ◌<◌}
@@ -8,9 +9,11 @@ use lib.Dec.{T, ltb, nltb→le, eqb}
 use lib.IntN.{ℤ, pos, negsuc, nat_abs, ◌+ℤ◌, pos-ne-negsuc}
 use lib.Ieee.{size}
 use lib.Signed.{mag}
+use mir.Syntax.{w32}
+use mir.Val.{to_z, of_z}
 use Rattle.digits.specs.Digits.{Digits}
 use Rattle.digits.proofs.Digits.{digits_more}
-use Rattle.digits.proofs.Signed.{mag_add}
+use Rattle.digits.proofs.Signed.{mag_add, small_back}
 use Rattle.digits.proofs.Tests.{clash}
 use Rattle.definitions.specs.Class.{Value, Class, unsupported, nan, infinite, finite}
 use Rattle.definitions.specs.Format.{Format, Representable, Holds, class_of, reach}
@@ -20,14 +23,11 @@ use Rattle.definitions.specs.declared.Kind.{Kind}
 use Rattle.operands.specs.declared.Operand.{Operand}
 use Rattle.operands.specs.declared.Operand.TheVariants.{Unsupported, Nan, Infinite, Zero, Finite}
 use Rattle.operands.specs.declared.Unpacked.{Unpacked}
-use Rattle.operands.specs.declared.Divisor.{Divisor}
-use Rattle.operands.specs.declared.Divisor.TheVariants.{Unbounded, By}
 use Rattle.operands.specs.Operand.{operand_of, unpacked_of, class_in, value_in, value_operand, divisor_operand, divisor_in, Ready, Unpacks}
 use Rattle.operands.proofs.Lead.{class_back, lead, lead_top, lead_word}
 use Rattle.laws.proofs.Division.{finish_held}
 use Rattle.laws.proofs.RoundTrip.{read_holds}
-use Rattle.shapes.specs.declared.shape.Shape.{Shape}
-use Rattle.shapes.specs.Shape.{format_of, shape_of, Sound}
+use Rattle.shapes.specs.Shape.{Sound}
 use Rattle.packing.specs.Stands.{Stands, StandsValue, StandsDivisor}
 
 -- the smallest place of a regular format is as far below one as its bias and its precision say
@@ -134,14 +134,21 @@ module _ (f : Format) (ok : Sound f) where
         small = rw e (omega (arith, mag_add f.smallest (pos (size v.count - 1)), smallest_small, range, ok.narrow, ok.short));
       }
 
-  -- what is left of a value by a divisor is a value again
-  pub finish_stands : (κ : Kind) (y : Divisor) (v : Value) → StandsDivisor f y → Representable f v.count → Representable f (finish κ (divisor_in f.smallest y) v).value.count
-  unfolding finish class_in
-  finish_stands κ Unbounded v sy h = h
-  finish_stands κ (By u) v sy h = finish_held f κ (value_in f.smallest u).count v (unpacks u sy).some sy.held h
+  -- what the machine holds of the smallest place, and of an exponent, is read back as it was written
+  pub smallest_back : (s : ℤ) → s ≡ f.smallest → to_z w32 (of_z w32 s) ≡ f.smallest
+  smallest_back s is = rw is (small_back f.smallest (omega (arith, smallest_small)))
 
--- the operands of two patterns, by the shape of their format
-module _ (f : Format) (ok : Sound f) (h : Shape) (of : h ≡ shape_of f) (x y : ℕ) (o p : Operand)
+  pub exponent_back : (u : Unpacked) → StandsValue f (Finite u) → to_z w32 (of_z w32 u.exponent) ≡ u.exponent
+  exponent_back u h = small_back u.exponent (omega (arith, (ready u h).small))
+
+  -- what is left of a value by a divisor is a value again
+  pub finish_stands : (κ : Kind) (y : Option Unpacked) (v : Value) → StandsDivisor f y → Representable f v.count → Representable f (finish κ (divisor_in f.smallest y) v).value.count
+  unfolding finish class_in
+  finish_stands κ None v sy h = h
+  finish_stands κ (Some u) v sy h = finish_held f κ (value_in f.smallest u).count v (unpacks u sy).some sy.held h
+
+-- the operands of two patterns
+module _ (f : Format) (ok : Sound f) (x y : ℕ) (o p : Operand)
     (ox : o ≡ operand_of f.smallest (class_of f x)) (py : p ≡ operand_of f.smallest (class_of f y)) where
-  pub patterns_stand : Sound (format_of h) × Stands (format_of h) o × Stands (format_of h) p
-  patterns_stand = rw of (ok, stands_pattern f ok x o ox, stands_pattern f ok y p py)
+  pub patterns_stand : Stands f o × Stands f p
+  patterns_stand = (stands_pattern f ok x o ox, stands_pattern f ok y p py)

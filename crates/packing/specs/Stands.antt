@@ -1,11 +1,10 @@
 -- What an operand stands for in a format. Nothing to believe: the one invariant of operands that every layer above asks for and keeps.
-use Rattle.std.specs.Prelude.{◌≡◌}
+use Rattle.std.specs.Prelude.{◌≡◌, Option, None, Some}
 use Rattle.definitions.specs.Class.{finite}
 use Rattle.definitions.specs.Format.{Format, Representable, Holds}
 use Rattle.operands.specs.declared.Operand.{Operand}
+use Rattle.operands.specs.declared.Unpacked.{Unpacked}
 use Rattle.operands.specs.declared.Operand.TheVariants.{Finite}
-use Rattle.operands.specs.declared.Divisor.{Divisor}
-use Rattle.operands.specs.declared.Divisor.TheVariants.{Unbounded, By}
 use Rattle.operands.specs.Operand.{operand_of, class_in, value_operand}
 
 -- an operand is written as `unpack` writes what it stands for, and the format holds that
@@ -19,6 +18,6 @@ pub record StandsValue (f : Format) (o : Operand) : Type 0 where
   pub held : Representable f (value_operand f.smallest o).count
 
 -- and of a divisor
-abbrev pub StandsDivisor : Format → Divisor → Type 0
-StandsDivisor f Unbounded = Unit {0}
-StandsDivisor f (By u) = StandsValue f (Finite u)
+abbrev pub StandsDivisor : Format → Option Unpacked → Type 0
+StandsDivisor f None = Unit {0}
+StandsDivisor f (Some u) = StandsValue f (Finite u)

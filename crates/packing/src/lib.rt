@@ -2,5 +2,6 @@
 // is written once.
 #![tactic(auto)]
 
+pub mod held;
 pub mod pack;
 pub mod unpack;

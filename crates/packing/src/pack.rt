@@ -4,14 +4,14 @@ ghost use Rattle.definitions.specs.Format.{pattern_of, top_field, field_weight, 
 ghost use Rattle.definitions.specs.Answers.{joined};
 ghost use Rattle.operands.specs.Operand.{operand_of, class_in, value_in};
 ghost use Rattle.operands.specs.declared.Operand.TheVariants.{Finite};
-ghost use Rattle.shapes.specs.Shape.{format_of, Sound};
 ghost use Rattle.packing.specs.Trimmed.{trimmed_of};
 ghost use Rattle.packing.specs.Stands.{Stands, StandsValue};
 
+use crate::held::Held;
 use definitions::Pattern;
 use operands::{Operand, Unpacked, place_of};
 use shapes::fields::{Fields, pattern_of};
-use shapes::shape::{Shape, hidden_part, leading_weight, top_field};
+use shapes::format::{Format, hidden_part, leading_weight, top_field};
 
 // The leading digits of a value, as many as the precision, and how many lie below them.
 #[derive(Clone, Copy)]
@@ -20,16 +20,12 @@ pub struct Trimmed {
     pub significand: u64,
 }
 
-fn trim(shape: Shape, value: Unpacked) -> Trimmed
-    requires { Sound (format_of shape) × StandsValue (format_of shape) (Finite value) }
-    ensures { result ≡ trimmed_of shape.precision (value_in shape.smallest value).count }
+fn trim<F: Format>(value: Unpacked) -> Trimmed
+    requires { StandsValue F.format (Finite value) }
+    ensures { result ≡ trimmed_of F.format.precision (value_in F.format.smallest value).count }
 {
-    let place = place_of(value.exponent, shape.smallest);
-    let kept = if place < shape.precision {
-        place
-    } else {
-        shape.precision - 1
-    };
+    let place = place_of(value.exponent, F::SMALLEST);
+    let kept = place.min(F::PRECISION - 1);
     Trimmed {
         dropped: place - kept,
         significand: value.significand >> (63 - kept),
@@ -37,13 +33,13 @@ fn trim(shape: Shape, value: Unpacked) -> Trimmed
 }
 
 // A value without its leading digit has dropped none, and its field is 0.
-fn value_fields(shape: Shape, value: Unpacked) -> Fields
-    requires { Sound (format_of shape) × StandsValue (format_of shape) (Finite value) }
-    ensures { (result.negative ≡ value.negative) × (result.field ≤ top_field (format_of shape)) × (result.stored < field_weight (format_of shape)) × (result.field * field_weight (format_of shape) + result.stored ≡ magnitude (format_of shape) (value_in shape.smallest value).count) }
+fn value_fields<F: Format>(value: Unpacked) -> Fields
+    requires { StandsValue F.format (Finite value) }
+    ensures { (result.negative ≡ value.negative) × (result.field ≤ top_field F.format) × (result.stored < field_weight F.format) × (result.field * field_weight F.format + result.stored ≡ magnitude F.format (value_in F.format.smallest value).count) }
 {
-    let kept = trim(shape, value);
+    let kept = trim::<F>(value);
     let negative = value.negative;
-    if kept.significand < leading_weight(shape) {
+    if kept.significand < leading_weight::<F>() {
         Fields {
             negative,
             field: 0,
@@ -53,72 +49,67 @@ fn value_fields(shape: Shape, value: Unpacked) -> Fields
         Fields {
             negative,
             field: (kept.dropped as u64) + 1,
-            stored: kept.significand - hidden_part(shape),
+            stored: kept.significand - hidden_part::<F>(),
         }
     }
 }
 
 // The stored significand of an infinity.
-fn infinity_stored(shape: Shape) -> u64
-    requires { Sound (format_of shape) }
-    ensures { result ≡ infinity shape.layout (leading (format_of shape)) }
+fn infinity_stored<F: Format>() -> u64
+    ensures { result ≡ infinity F.format.layout (leading F.format) }
 {
-    leading_weight(shape) - hidden_part(shape)
+    leading_weight::<F>() - hidden_part::<F>()
 }
 
 // That of the house NaN, which has the digit below the leading one too.
-fn house_stored(shape: Shape) -> u64
-    requires { Sound (format_of shape) }
-    ensures { result ≡ quiet shape.layout (leading (format_of shape)) }
+fn house_stored<F: Format>() -> u64
+    ensures { result ≡ quiet F.format.layout (leading F.format) }
 {
-    infinity_stored(shape) + leading_weight(shape) / 2
+    infinity_stored::<F>() + leading_weight::<F>() / 2
 }
 
 // The house NaN, as an operand and as a pattern.
-pub fn house_operand(shape: Shape) -> Operand
-    requires { Sound (format_of shape) }
-    ensures { result ≡ operand_of shape.smallest (house (format_of shape)) }
+pub fn house_operand<F: Format>() -> Operand
+    ensures { result ≡ operand_of F.format.smallest (house F.format) }
 {
     Operand::Nan {
         negative: false,
-        stored: house_stored(shape),
+        stored: house_stored::<F>(),
     }
 }
 
-pub fn house_nan(shape: Shape) -> Pattern
-    requires { Sound (format_of shape) }
-    ensures { joined result ≡ house_nan (format_of shape) }
+pub fn house_nan<F: Format>() -> Pattern
+    ensures { joined result ≡ house_nan F.format }
 {
     let fields = Fields {
         negative: false,
-        field: top_field(shape),
-        stored: house_stored(shape),
+        field: top_field::<F>(),
+        stored: house_stored::<F>(),
     };
-    pattern_of(shape, fields)
+    pattern_of::<F>(fields)
 }
 
 // The pattern of an operand that stands for a value of the format.
-pub fn pack(shape: Shape, operand: Operand) -> Pattern
-    requires { Sound (format_of shape) × Stands (format_of shape) operand }
-    ensures { joined result ≡ pattern_of (format_of shape) (class_in shape.smallest operand) }
+pub fn pack<F: Format>(held: Held<F>) -> Pattern
+    ensures { joined result ≡ pattern_of F.format (class_in F.format.smallest held) }
 {
-    match operand {
-        Operand::Unsupported => house_nan(shape),
+    match held.operand() {
+        Operand::Unsupported => house_nan::<F>(),
         Operand::Nan { negative, stored } => {
             let fields = Fields {
                 negative,
-                field: top_field(shape),
+                field: top_field::<F>(),
                 stored,
             };
-            pattern_of(shape, fields)
+            pattern_of::<F>(fields)
         }
         Operand::Infinite(negative) => {
             let fields = Fields {
                 negative,
-                field: top_field(shape),
-                stored: infinity_stored(shape),
+                field: top_field::<F>(),
+                stored: infinity_stored::<F>(),
             };
-            pattern_of(shape, fields)
+            pattern_of::<F>(fields)
         }
         Operand::Zero(negative) => {
             let fields = Fields {
@@ -126,8 +117,8 @@ pub fn pack(shape: Shape, operand: Operand) -> Pattern
                 field: 0,
                 stored: 0,
             };
-            pattern_of(shape, fields)
+            pattern_of::<F>(fields)
         }
-        Operand::Finite(value) => pattern_of(shape, value_fields(shape, value)),
+        Operand::Finite(value) => pattern_of::<F>(value_fields::<F>(value)),
     }
 }

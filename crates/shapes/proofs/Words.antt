@@ -1,6 +1,6 @@
 -- The fields in the words of a pattern, for each layout, and the words of fields. Assumes nothing.
 use mathlib.Core.Path.{◌≡◌, ap, ◌∙◌}
-use mathlib.Core.Bool.{Bool, true, false, not, cond}
+use mathlib.Core.Bool.{Bool, true, false, not}
 use Prim.Native.Nat.{ℕ, ◌+◌, ◌*◌, ◌/◌, ◌%◌, ◌^◌, ◌≤◌, ◌<◌}
 use native.Mathlib.Nat.{mul-le-mul_right, mod-lt, div-add-mod', div-lt_iff_lt-mul}
 use native.Mathlib.Omega.{arith}
@@ -12,7 +12,7 @@ use Rattle.definitions.specs.Answers.{joined}
 use Rattle.definitions.specs.declared.Layout.TheVariants.{Hidden, Explicit}
 use Rattle.definitions.specs.declared.Pattern.{Pattern}
 use Rattle.laws.proofs.Layouts.{hidden_weight}
-use Rattle.shapes.specs.Shape.{Sound, fields_above, fields_in}
+use Rattle.shapes.specs.Shape.{Sound, above, fields_above, fields_in}
 use Rattle.shapes.proofs.Weights.{leading_pos, hidden_patterns, explicit_weight}
 
 -- what stands above the stored significand t, as a, has the sign if it exceeds the largest field
@@ -60,9 +60,6 @@ module _ (f : Format) (ok : Sound f) (p : Pattern) (small : joined p < patterns 
         fields_above_lem f p.high p.low (rw w h) ∙ ap (λ (h : ℕ). fields_in f (p.high * h + p.low)) w
 
 -- an exponent field with the sign over it
-abbrev pub above : Format → Bool → ℕ → ℕ
-above f n e = cond n (top_field f + 1 + e) e
-
 module _ (f : Format) (e t : ℕ) where
   pub above_pattern : (n : Bool) → above f n e * field_weight f + t ≡ with_sign f n (e * field_weight f + t)
   above_pattern true = omega arith

@@ -1,17 +1,9 @@
--- The shape of a format, as the code goes by it. Nothing to believe: these only name the code's own values.
-use Rattle.std.specs.Prelude.{ℕ, ◌+◌, ◌/◌, ◌%◌, ◌^◌, ◌≤◌, ◌≡◌, leb, ltb}
+-- The formats that the code takes, and the fields of a pattern. Nothing to believe: these only name what the code asks for and makes.
+use Rattle.std.specs.Prelude.{ℕ, ◌+◌, ◌/◌, ◌%◌, ◌^◌, ◌≤◌, ◌≡◌, Bool, cond, leb, ltb}
 use Rattle.definitions.specs.Format.{Format, Regular, patterns, top_field, field_weight, sign_weight}
 use Rattle.definitions.specs.declared.Layout.{Layout}
 use Rattle.definitions.specs.declared.Layout.TheVariants.{Hidden, Explicit}
-use Rattle.shapes.specs.declared.shape.Shape.{Shape}
 use Rattle.shapes.specs.declared.fields.Fields.{Fields}
-
--- the format of a shape, and the shape of a format
-abbrev pub format_of : Shape → Format
-format_of h = record { precision = h.precision; bias = h.bias; smallest = h.smallest; layout = h.layout }
-
-abbrev pub shape_of : Format → Shape
-shape_of f = record { precision = f.precision; bias = f.bias; smallest = f.smallest; layout = f.layout }
 
 -- how the two words of a pattern are filled: with a hidden leading digit all is in the low one, and an explicit significand fills it
 abbrev pub Filled : Layout → Format → Type 0
@@ -31,3 +23,7 @@ fields_above top above stored = record { negative = ltb top above; field = above
 
 abbrev pub fields_in : Format → ℕ → Fields
 fields_in f b = record { negative = leb (sign_weight f) b; field = b / field_weight f % (top_field f + 1); stored = b % field_weight f }
+
+-- an exponent field with the sign over it
+abbrev pub above : Format → Bool → ℕ → ℕ
+above f n e = cond n (top_field f + 1 + e) e

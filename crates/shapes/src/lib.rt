@@ -1,5 +1,5 @@
-// The shape of a format, and a pattern as its sign, its exponent field and its stored significand.
+// A format, by the type of its patterns, and a pattern as its sign, its exponent field and its stored significand.
 #![tactic(auto)]
 
 pub mod fields;
-pub mod shape;
+pub mod format;

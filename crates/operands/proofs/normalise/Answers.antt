@@ -1,5 +1,4 @@
 -- `normalise` meets its contract: the shift is the count of leading zeros, and nothing is shifted out.
-use Prim.Native.Nat.{◌<◌}
 use native.Mathlib.Nat.{mod-eq_of_lt, pos_of_ne-zero}
 use native.Mathlib.Omega.{arith}
 use borrow.Author.Tests.{eq-eqb, ne_eqb}
@@ -19,13 +18,12 @@ returns-then-significand-eq0 c = simp (eq-eqb _ _ c.if-significand-eq0.true)
 pub returns : goal.returns
 unfolding normal_of
 returns c =
-    let under : count_leading_zeros 64 c.args.significand < 64 =
-    leading_under 64 c.args.significand (pos_of_ne-zero c.if-significand-eq0.false) c.ranges.significand.fits
-    in
-    let a = c.args.significand in
+    let some = pos_of_ne-zero c.if-significand-eq0.false in
+    let word = c.ranges.significand.fits in
+    let places = count_leading_zeros 64 c.args.significand in
+    let under = leading_under 64 c.args.significand some word in
     simp (
       ne_eqb _ _ c.if-significand-eq0.false,
-      mod-eq_of_lt (shifted_small 64 a (pos_of_ne-zero c.if-significand-eq0.false) c.ranges.significand.fits),
-      sub_is c.args.exponent (pos (count_leading_zeros 64 a)) _ _ (to_z-of_z w32 c.args.exponent c.ranges.exponent)
-          (to_z_pos w32 _ (omega (arith, under))) (omega arith) (omega (arith, under)),
+      mod-eq_of_lt (shifted_small 64 c.args.significand some word),
+      sub_is c.args.exponent (pos places) _ _ (to_z-of_z w32 c.args.exponent c.ranges.exponent) (to_z_pos w32 _ (omega (arith, under))) (omega arith) (omega (arith, under)),
     )

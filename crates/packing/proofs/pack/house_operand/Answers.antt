@@ -4,4 +4,4 @@ use Rattle.packing.proofs.pack.house_operand.Goals as goal
 
 pub returns : goal.returns
 unfolding operand_of
-returns c = rw c.house_stored.ensures
+returns g c = rw c.house_stored.ensures

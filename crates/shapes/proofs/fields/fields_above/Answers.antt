@@ -4,10 +4,9 @@ use native.Mathlib.Nat.{mod-eq_of_lt}
 use native.Mathlib.Omega.{arith}
 use borrow.Author.Tests.{le-ltb}
 use Rattle.definitions.specs.Format.{top_field}
-use Rattle.shapes.specs.Shape.{format_of}
 use Rattle.shapes.proofs.fields.fields_above.Goals as goal
 
 pub returns-else-top-above : goal.returns-else-top-above
-returns-else-top-above c =
-    let top = top_field (format_of c.args.shape) in
+returns-else-top-above g c =
+    let top = top_field g.F.Format.format in
     rw (le-ltb top c.args.above (omega arith), mod-eq_of_lt {n = c.args.above} {m = top + 1} (omega arith))
