@@ -1,4 +1,5 @@
 -- A remainder of two patterns makes at most D / 11 + 2 divisions, in every format, and none where nothing is divided. Assumes nothing.
+use Rattle.std.specs.Prelude.{None}
 use Rattle.std.proofs.Common.{◌≡◌, ℕ, ◌+◌, ◌/◌, ◌<◌, ◌≤◌, Bool, true, false, cond, eqb, ℤ, pos, negsuc, ◌-ℤ◌, nat_abs, refl, zero-le, pos_of_ne-zero, le-ltb}
 use borrow.Author.Tests.{eqb-false}
 use lib.Signed.{lt_z}
@@ -7,7 +8,6 @@ use Rattle.definitions.specs.Format.{Format, class_of, exponent_of}
 use Rattle.laws.proofs.Gap.{gap_exponents}
 use Rattle.operands.specs.declared.Operand.{Operand}
 use Rattle.operands.specs.declared.Operand.TheVariants.{Unsupported, Nan, Infinite, Zero, Finite}
-use Rattle.operands.specs.declared.Divisor.TheVariants.{Unbounded}
 use Rattle.operands.specs.Operand.{unpacked_of, operand_of, divisor_operand}
 use Rattle.division.specs.Divisions.{divisions_of}
 use Rattle.division.proofs.Count.{divisions_bounded}
@@ -19,7 +19,7 @@ by_gap a b (pos n) = simp (le-ltb n 0 zero-le) (divisions_bounded a b n)
 by_gap a b (negsuc n) = zero-le
 
 -- by what takes nothing off, none
-by_unbounded : (o : Operand) → divisor_divisions o Unbounded ≡ 0
+by_unbounded : (o : Operand) → divisor_divisions o None ≡ 0
 by_unbounded Unsupported = refl
 by_unbounded (Nan n t) = refl
 by_unbounded (Infinite n) = refl

@@ -1,12 +1,10 @@
 -- How many divisions by the divisor's significand a remainder makes. Definitions only.
-use Rattle.std.specs.Prelude.{ℕ, cond, ℤ, pos, negsuc, ◌-ℤ◌, ◌==◌, int_lt, unsigned_abs}
+use Rattle.std.specs.Prelude.{ℕ, cond, ℤ, pos, negsuc, ◌-ℤ◌, ◌==◌, int_lt, unsigned_abs, Option, None, Some}
 use Rattle.definitions.specs.Class.{Class, unsupported, nan, infinite, finite, gap}
 use Rattle.definitions.specs.Format.{Format, class_of}
 use Rattle.operands.specs.declared.Unpacked.{Unpacked}
 use Rattle.operands.specs.declared.Operand.{Operand}
 use Rattle.operands.specs.declared.Operand.TheVariants.{Unsupported, Nan, Infinite, Zero, Finite}
-use Rattle.operands.specs.declared.Divisor.{Divisor}
-use Rattle.operands.specs.declared.Divisor.TheVariants.{Unbounded, By}
 use Rattle.operands.specs.Operand.{operand_of, divisor_operand}
 use Rattle.division.specs.Divisions.{divisions_of}
 
@@ -17,11 +15,11 @@ pair_divisions x y =
     cond (int_lt d (pos 0)) 0 (divisions_of x.significand y.significand (unsigned_abs d))
 
 -- a number by a divisor, and any operand by one: a zero and an infinite divisor need none, and a refusal has none
-abbrev pub divisions_by : Unpacked → Divisor → ℕ
-divisions_by x Unbounded = 0
-divisions_by x (By y) = pair_divisions x y
+abbrev pub divisions_by : Unpacked → Option Unpacked → ℕ
+divisions_by x None = 0
+divisions_by x (Some y) = pair_divisions x y
 
-abbrev pub divisor_divisions : Operand → Divisor → ℕ
+abbrev pub divisor_divisions : Operand → Option Unpacked → ℕ
 divisor_divisions Unsupported y = 0
 divisor_divisions (Nan n t) y = 0
 divisor_divisions (Infinite n) y = 0

@@ -11,7 +11,7 @@ ghost use Rattle.pairs.specs.Pair.{left_of, settled_of, below_of};
 ghost use Rattle.pairs.specs.Divisions.{pair_divisions};
 
 use definitions::Kind;
-use division::{Divided, divide_counted};
+use division::{Counted, Divided, divide_counted};
 use operands::{Operand, Unpacked, normalise};
 
 // What is left of a dividend, and the low 32 bits of the quotient that was taken off.
@@ -51,7 +51,7 @@ pub fn settle(kind: Kind, negative: bool, left: Divided, divisor: u64, exponent:
     if rounds_up(kind, quotient, remainder, divisor) {
         Left {
             value: normalise(!negative, divisor - remainder, exponent),
-            quotient: std::num::wrapping_add_u32(quotient, 1),
+            quotient: quotient.wrapping_add(1),
         }
     } else {
         Left {
@@ -67,52 +67,36 @@ fn settle_below(kind: Kind, x: Unpacked, y: Unpacked, d: i32) -> Left
     requires { Ready x × Ready y }
     ensures { result ≡ below_of kind x y d }
 {
-    match kind {
-        Kind::Truncated => Left {
+    let a = x.significand;
+    let b = y.significand;
+    if kind == Kind::Nearest && -2 < d && b < a {
+        Left {
+            value: normalise(!x.negative, b - (a - b), x.exponent),
+            quotient: 1,
+        }
+    } else {
+        Left {
             value: Operand::Finite(x),
             quotient: 0,
-        },
-        Kind::Nearest => {
-            let a = x.significand;
-            let b = y.significand;
-            if -2 < d {
-                if b < a {
-                    return Left {
-                        value: normalise(!x.negative, b - (a - b), x.exponent),
-                        quotient: 1,
-                    };
-                }
-            }
-            Left {
-                value: Operand::Finite(x),
-                quotient: 0,
-            }
         }
     }
 }
 
-// `Left`, with the divisions by the divisor's significand.
-#[derive(Clone, Copy)]
-pub struct LeftCounted {
-    pub left: Left,
-    pub divisions: u32,
-}
-
 // The remainder of the kind, finished. `d` is the gap.
-pub fn finish_counted(kind: Kind, x: Unpacked, y: Unpacked, d: i32) -> LeftCounted
+pub fn finish_counted(kind: Kind, x: Unpacked, y: Unpacked, d: i32) -> Counted<Left>
     requires { Ready x × Ready y × (d ≡ x.exponent -ℤ y.exponent) }
-    ensures left { (s : ℤ) (v w : Value) → Unpacks s v x → Unpacks s w y → result.left ≡ left_of s (finish_by kind w.count v) }
+    ensures left { (s : ℤ) (v w : Value) → Unpacks s v x → Unpacks s w y → result.value ≡ left_of s (finish_by kind w.count v) }
     ensures divisions { result.divisions ≡ pair_divisions x y }
 {
     if d < 0 {
-        return LeftCounted {
-            left: settle_below(kind, x, y, d),
+        return Counted {
+            value: settle_below(kind, x, y, d),
             divisions: 0,
         };
     }
     let counted = divide_counted(x.significand, y.significand, d as u32);
-    LeftCounted {
-        left: settle(kind, x.negative, counted.divided, y.significand, y.exponent),
+    Counted {
+        value: settle(kind, x.negative, counted.value, y.significand, y.exponent),
         divisions: counted.divisions,
     }
 }
@@ -121,5 +105,5 @@ pub fn finish_pair(kind: Kind, x: Unpacked, y: Unpacked, d: i32) -> Left
     requires { Ready x × Ready y × (d ≡ x.exponent -ℤ y.exponent) }
     ensures { (s : ℤ) (v w : Value) → Unpacks s v x → Unpacks s w y → result ≡ left_of s (finish_by kind w.count v) }
 {
-    finish_counted(kind, x, y, d).left
+    finish_counted(kind, x, y, d).value
 }

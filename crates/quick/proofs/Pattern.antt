@@ -1,5 +1,8 @@
 -- The binary64 pattern of a significand with eleven spare bits at the place of a field, as the code writes it. Assumes nothing.
-use Rattle.std.proofs.Common.{◌≡◌, ℕ, ◌+◌, ◌-◌, ◌*◌, ◌/◌, ◌%◌, ◌^◌, ◌<◌, ◌≤◌, Bool, true, false, cond, ◌⊎◌, sym, refl, ap, ◌∙◌, ⊎_elim, add-zero, mul_right_comm, arith}
+use Rattle.std.proofs.Common.{◌≡◌, ℕ, ◌+◌, ◌-◌, ◌*◌, ◌/◌, ◌%◌, ◌^◌, ◌<◌, ◌≤◌, Bool, true, false, cond, sym, refl, ap, ◌∙◌, ⊎_elim, add-zero, mul_right_comm, arith}
+use Prim.Native.Nat.{min}
+use Rattle.std.proofs.lemmas.Bool.{cases_lt}
+use Rattle.std.proofs.Math.Nat.{min-eq_left, min-eq_right}
 use lib.Count.{count_leading_zeros}
 use Rattle.digits.proofs.Size.{size_zero}
 use Rattle.definitions.specs.Class.{finite}
@@ -32,10 +35,6 @@ module _ (n : Bool) (sign r f : ℕ) (signed : sign ≡ cond n (2 ^ 63) 0) (g : 
   pattern_is : (m : ℕ) → m ≡ magnitude binary64 k → sign + m ≡ pattern n k
   pattern_is m e = (λ i. signed i + e i) ∙ sym (signed_pattern n k)
 
-  -- by as many places as there are zeros, or as many as the field allows
-  abbrev pub Shift : ℕ → Type 0
-  Shift t = ((z < f) × (t ≡ z)) ⊎ ((f ≤ z) × (t ≡ f - 1))
-
   normal : z < f → sign + ((f - 1 - z) * 2 ^ 52 + r * 2 ^ z % 2 ^ 64 / 2 ^ 11) ≡ pattern n k
   normal h = pattern_is _ (sym (normal_magnitude binary64 11 r f g h))
 
@@ -51,9 +50,7 @@ module _ (n : Bool) (sign r f : ℕ) (signed : sign ≡ cond n (2 ^ 63) 0) (g : 
   denormal : f ≤ z → sign + ((f - 1 - (f - 1)) * 2 ^ 52 + r * 2 ^ (f - 1) % 2 ^ 64 / 2 ^ 11) ≡ pattern n k
   denormal h = pattern_is _ (omega (arith, shifted h, denormal_magnitude binary64 11 r f g h))
 
-  module _ (t : ℕ) (shift : Shift t) where
-    pub written_fits : f < 2047 → sign + ((f - 1 - t) * 2 ^ 52 + r * 2 ^ t % 2 ^ 64 / 2 ^ 11) < 2 ^ 64
-    written_fits h = omega (arith, signed, sign_most n)
-
-    pub written_is : sign + ((f - 1 - t) * 2 ^ 52 + r * 2 ^ t % 2 ^ 64 / 2 ^ 11) ≡ pattern n k
-    written_is = ⊎_elim (λ w. rw w.1 (normal w.0)) (λ w. rw w.1 (denormal w.0)) shift
+  -- by as many places as there are zeros, or as many as the field allows
+  pub written_is : (t : ℕ) → t ≡ min z (f - 1) → sign + ((f - 1 - t) * 2 ^ 52 + r * 2 ^ t % 2 ^ 64 / 2 ^ 11) ≡ pattern n k
+  written_is t e =
+      ⊎_elim (λ h. rw (e ∙ min-eq_left (omega (arith, h))) (normal h)) (λ h. rw (e ∙ min-eq_right (omega (arith, h))) (denormal h)) (cases_lt z f)

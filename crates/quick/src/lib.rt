@@ -4,30 +4,22 @@
 // Everything else goes the general way. Only crates of this repository call these.
 #![tactic(auto)]
 
-ghost use Rattle.std.specs.Prelude.{◌≡◌, ◌-◌, ◌*◌, ◌/◌, ◌%◌, ◌^◌, ◌<◌, ◌≤◌, true, nat_lt};
+ghost use Rattle.std.specs.Prelude.{◌≡◌, ◌-◌, ◌*◌, ◌/◌, ◌%◌, ◌^◌, ◌<◌, ◌≤◌, true, cond, nat_lt};
 ghost use Rattle.definitions.specs.Class.{finite};
 ghost use Rattle.definitions.specs.Format.{binary64, pattern_of};
 ghost use Rattle.definitions.specs.Division.{rounds_up};
 ghost use Rattle.definitions.specs.Remainder.{remainder};
+ghost use Rattle.definitions.specs.Answers.{joined};
 ghost use Rattle.division.specs.Divided.{divided_of};
 ghost use Rattle.division.specs.Divisions.{divisions_of};
 ghost use Rattle.pairs.specs.Divisions.{divisions};
 ghost use Rattle.quick.specs.Settled.{settled_of};
 ghost use Rattle.quick.specs.Common.{field_of, spread_of, common, margin_of, kept};
 
-use definitions::Kind;
+use definitions::{Kind, Pattern, Residue};
 use division::{Counted, Divided, divide_counted, divide_once};
 use pairs::rounds_up;
 use quotients::quotient_bits;
-use std::num::wrapping_add_u32;
-
-// A remainder of the common case: it is never refused.
-#[derive(Clone, Copy)]
-pub struct Quick {
-    pub value: u64,
-    pub quotient: u32,
-    pub divisions: u32,
-}
 
 // A left-over with its sign, and its quotient's low 32 bits.
 #[derive(Clone, Copy)]
@@ -40,7 +32,7 @@ pub struct Settled {
 // 2^52, the weight of the exponent field's last bit and of a significand's leading digit; and the sign's.
 const UNIT: u64 = 4503599627370496;
 
-const SIGN: u64 = 9223372036854775808;
+pub const SIGN: u64 = 9223372036854775808;
 
 pub fn field_of(pattern: u64) -> u64
     ensures { result ≡ field_of pattern }
@@ -84,16 +76,24 @@ pub fn is_kept(x: u64, y: u64, kind: Kind) -> bool
     0 < field_of(x) && field_of(x) + margin(kind) < field_of(y) && field_of(y) < 2047
 }
 
-pub fn remainder_kept(x: u64, y: u64, kind: Kind) -> Quick
+pub fn remainder_kept(x: u64, y: u64, kind: Kind) -> Counted<Residue<u32>>
     requires { kept kind x y ≡ true }
-    ensures answer { record { number = 0; value = result.value; quotient = result.quotient } ≡ remainder binary64 kind x y }
+    ensures answer { record { number = 0; value = joined result.value.value; quotient = result.value.quotient } ≡ remainder binary64 kind x y }
     ensures divisions { result.divisions ≡ divisions binary64 x y }
 {
-    Quick {
-        value: x,
-        quotient: 0,
+    Counted {
+        value: Residue {
+            value: Pattern { high: 0, low: x },
+            quotient: 0,
+        },
         divisions: 0,
     }
+}
+
+fn sign_of(negative: bool) -> u64
+    ensures { result ≡ cond negative (2 ^ 63) 0 }
+{
+    if negative { SIGN } else { 0 }
 }
 
 // The pattern of a significand with eleven spare bits, at the place of a field: its leading zeros come off the field, as far as that goes.
@@ -102,24 +102,24 @@ pub fn written(negative: bool, significand: u64, field: u64) -> u64
     requires { (significand % 2 ^ 11 ≡ 0) × (1 ≤ field) × (field < 2047) }
     ensures { result ≡ pattern_of binary64 (finite (record { negative = negative; count = significand / 2 ^ 11 * 2 ^ (field - 1) })) }
 {
-    let sign = if negative { SIGN } else { 0 };
+    let sign = sign_of(negative);
     if significand == 0 {
         return sign;
     }
-    let zeros = u64::leading_zeros(significand) as u64;
-    let shift = if zeros < field { zeros } else { field - 1 };
+    let zeros = significand.leading_zeros() as u64;
+    let shift = zeros.min(field - 1);
     sign + ((field - 1 - shift) * UNIT + (significand << shift) / 2048)
 }
 
 // The divisor ends in eleven zeros at least: where there are no more places, one division is enough, and is compiled in here.
-fn divide_quick(a: u64, b: u64, places: u32) -> Counted
+fn divide_quick(a: u64, b: u64, places: u32) -> Counted<Divided>
     requires { 2 ^ 63 ≤ b }
-    ensures divided { result.divided ≡ divided_of a b places }
+    ensures divided { result.value ≡ divided_of a b places }
     ensures divisions { result.divisions ≡ divisions_of a b places }
 {
-    if places <= u64::trailing_zeros(b) {
+    if places <= b.trailing_zeros() {
         return Counted {
-            divided: divide_once(a, b, places),
+            value: divide_once(a, b, places),
             divisions: 1,
         };
     }
@@ -142,29 +142,34 @@ pub fn settle(kind: Kind, negative: bool, left: Divided, divisor: u64) -> Settle
         },
         Kind::Nearest => {
             let up = rounds_up(kind, quotient, rest, divisor);
-            let next: u32 = if up { 1 } else { 0 };
-            let taken = next as u64;
+            let next = u32::from(up);
+            let taken = u64::from(up);
             Settled {
                 negative: negative ^ up,
                 rest: rest * (1 - taken) + (divisor - rest) * taken,
-                quotient: wrapping_add_u32(quotient, next),
+                quotient: quotient.wrapping_add(next),
             }
         }
     }
 }
 
-pub fn remainder_common(x: u64, y: u64, kind: Kind) -> Quick
+pub fn remainder_common(x: u64, y: u64, kind: Kind) -> Counted<Residue<u32>>
     requires { common x y ≡ true }
-    ensures answer { record { number = 0; value = result.value; quotient = result.quotient } ≡ remainder binary64 kind x y }
+    ensures answer { record { number = 0; value = joined result.value.value; quotient = result.value.quotient } ≡ remainder binary64 kind x y }
     ensures divisions { result.divisions ≡ divisions binary64 x y }
 {
     let divisor = spread(y);
     let field = field_of(y);
     let counted = divide_quick(spread(x), divisor, (field_of(x) - field) as u32);
-    let settled = settle(kind, SIGN <= x, counted.divided, divisor);
-    Quick {
-        value: written(settled.negative, settled.rest, field),
-        quotient: quotient_bits(settled.quotient),
+    let settled = settle(kind, SIGN <= x, counted.value, divisor);
+    Counted {
+        value: Residue {
+            value: Pattern {
+                high: 0,
+                low: written(settled.negative, settled.rest, field),
+            },
+            quotient: quotient_bits(settled.quotient),
+        },
         divisions: counted.divisions,
     }
 }

@@ -1,5 +1,5 @@
 -- The two cases, by their fields: both patterns are normal. Assumes nothing.
-use mathlib.Core.Path.{◌≡◌, refl}
+use mathlib.Core.Path.{◌≡◌, refl, sym, ap, ◌∙◌}
 use mathlib.Core.Bool.{Bool, true, false, ◌&&◌, ◌||◌}
 use Prim.Native.Nat.{ℕ, ◌+◌, ◌≤◌, ◌<◌}
 use native.Mathlib.Omega.{arith}
@@ -12,6 +12,10 @@ use Rattle.quick.specs.Common.{margin_of}
 use Rattle.quick.proofs.Normals.{Normal}
 use Rattle.quick_short.specs.Short.{Short, field_of, common, kept, quick}
 use Rattle.quick_short.proofs.Formats.{normal}
+
+-- what is quick and not common is kept
+pub not_common : (f : Format) (x y : ℕ) (κ : Kind) → quick f κ x y ≡ true → common f x y ≡ false → kept f κ x y ≡ true
+not_common f x y κ e n = sym (ap (λ (b : Bool). b || kept f κ x y) n) ∙ e
 
 module _ (f : Format) (s : Short f) (x y : ℕ) where
   -- the common case

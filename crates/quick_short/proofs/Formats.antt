@@ -1,23 +1,15 @@
--- What a format with short significands gives: its weights are small, and binary16 and binary32 are such formats. Assumes nothing.
-use mathlib.Core.Path.{◌≡◌, refl}
+-- What a format with short significands gives: its weights are small. Assumes nothing.
+use mathlib.Core.Path.{◌≡◌}
 use Prim.Native.Nat.{ℕ, ◌+◌, ◌-◌, ◌*◌, ◌^◌, ◌≤◌, ◌<◌}
 use native.Mathlib.Omega.{arith}
-use lib.Dec.{lit≤}
 use lib.Pow.{pow_mono}
-use Rattle.definitions.specs.Format.{Format, binary16, binary32, top_field, leading, field_weight, sign_weight}
+use Rattle.definitions.specs.Format.{Format, top_field, leading, field_weight, sign_weight}
 use Rattle.laws.proofs.Layouts.{hidden_weight}
 use Rattle.laws.proofs.Pattern.{rest_small}
 use Rattle.laws.proofs.Representable.{leading_twice}
-use Rattle.shapes.proofs.Sounds.{sound16, sound32}
 use Rattle.shapes.proofs.Weights.{hidden_patterns, top_le}
 use Rattle.quick.proofs.Normals.{normal_significand, Normal}
 use Rattle.quick_short.specs.Short.{Short, field_of, significand_of}
-
-pub short16 : Short binary16
-short16 = record { sound = sound16; few = lit≤ tt; hidden = refl }
-
-pub short32 : Short binary32
-short32 = record { sound = sound32; few = lit≤ tt; hidden = refl }
 
 module _ (f : Format) (s : Short f) where
   pub weight_is : field_weight f ≡ leading f

@@ -1,19 +1,20 @@
 -- The pattern of a significand at the place of a field, as the code writes it. Assumes nothing.
 use mathlib.Core.Path.{◌≡◌, refl, sym, ◌∙◌}
-use mathlib.Core.Logic.{◌⊎◌, ⊎_elim}
+use mathlib.Core.Logic.{◌⊎◌, inl, inr}
 use mathlib.Core.Bool.{Bool, true, false, cond}
-use Prim.Native.Nat.{ℕ, ◌+◌, ◌-◌, ◌*◌, ◌/◌, ◌^◌, ◌≤◌, ◌<◌}
-use native.Mathlib.Nat.{add-zero, div-one, mul-le-mul_right, lt_of_lt_of_le, zero-mul}
+use Prim.Native.Nat.{ℕ, ◌+◌, ◌-◌, ◌*◌, ◌/◌, ◌%◌, ◌^◌, ◌≤◌, ◌<◌}
+use native.Mathlib.Nat.{add-zero, div-one, mul-le-mul_right, lt_of_lt_of_le, zero-mul, mod-eq_of_lt}
 use native.Mathlib.Omega.{arith}
+use lib.Count.{count_leading_zeros}
 use lib.Ieee.{size}
-use lib.Ieee.Digits.{size-lt}
+use lib.Ieee.Digits.{size-lt, size-le}
 use lib.Pow.{pow_mono, shl_lt, shl-shr}
 use Rattle.digits.proofs.Common.{shift_shift}
-use Rattle.digits.proofs.Size.{size_zero, size_shift}
+use Rattle.digits.proofs.Size.{size_zero, size_shift, size_leading}
 use Rattle.definitions.specs.Class.{finite}
 use Rattle.definitions.specs.Format.{Format, top_field, leading, sign_weight, magnitude, pattern_of}
 use Rattle.quick_short.specs.Short.{Short}
-use Rattle.quick_short.proofs.Formats.{twice, sign_small, sign_is}
+use Rattle.quick_short.proofs.Formats.{twice, leading_small, sign_small, sign_is}
 
 -- a pattern is its sign and its magnitude
 abbrev pub pattern : Format → Bool → ℕ → ℕ
@@ -38,11 +39,18 @@ module _ (f : Format) (s : Short f) (n : Bool) where
       let m : magnitude f 0 ≡ 0 = dropped 0 0 (omega (arith, size_zero)) ∙ add-zero (0 * leading f) ∙ zero-mul (leading f) in
       signed_pattern f n k ∙ rw (e, m) (add-zero (cond n (sign_weight f) 0))
 
-  -- a significand r that is not zero, at the place of the field e, and its leading zeros z within the precision
-  module _ (sign r e z : ℕ) (signed : sign ≡ cond n (sign_weight f) 0) (some : 0 < r) (fits : r < 2 ^ f.precision) (low : 1 ≤ e) (high : e < top_field f)
-      (zeros : z + size r ≡ f.precision) where
+  -- a significand r that is not zero, at the place of the field e, where p is the precision
+  module _ (sign r e p : ℕ) (precise : p ≡ f.precision) (signed : sign ≡ cond n (sign_weight f) 0) (some : 0 < r) (word : r < 2 ^ 64) (short : r < 2 ^ f.precision)
+      (low : 1 ≤ e) (high : e < top_field f) where
     abbrev k : ℕ
     k = r * 2 ^ (e - 1)
+
+    -- its leading zeros within the precision
+    abbrev pub z : ℕ
+    z = count_leading_zeros 64 r - (64 - p)
+
+    zeros : z + size r ≡ f.precision
+    zeros = omega (arith, precise, size-le r f.precision short, size_leading 64 r word, s.few)
 
     -- by as many places as there are zeros, or as many as the field allows
     abbrev pub Shift : ℕ → Type 0
@@ -60,30 +68,27 @@ module _ (f : Format) (s : Short f) (n : Bool) where
     denormal : e ≤ z → magnitude f k ≡ (e - 1 - (e - 1)) * leading f + k
     denormal h = let o : e - 1 - (e - 1) ≡ 0 = omega arith in dropped k 0 (omega (arith, digits, zeros)) ∙ rw (o, div-one k)
 
-    module _ (t : ℕ) (shift : Shift t) where
-      pub shift_under : (t ≤ z) × (t ≤ e - 1)
-      shift_under = ⊎_elim (λ w. zeros_under w.0 w.1) (λ w. most_under w.0 w.1) shift
-        where
-          zeros_under : {t z e : ℕ} → z < e → t ≡ z → (t ≤ z) × (t ≤ e - 1)
-          zeros_under h i = (omega arith, omega arith)
+    -- what the code writes: the shifted significand and all of the pattern fit the word
+    pub record Written (t : ℕ) : Type 0 where
+      pub whole : r * 2 ^ t % 2 ^ 64 ≡ r * 2 ^ t
+      pub fits : sign + ((e - 1 - t) * leading f + r * 2 ^ t) < 2 ^ 64
+      pub is : sign + ((e - 1 - t) * leading f + r * 2 ^ t) ≡ pattern f n k
 
-          most_under : {t z e : ℕ} → e ≤ z → t ≡ e - 1 → (t ≤ z) × (t ≤ e - 1)
-          most_under h i = (omega arith, omega arith)
+    under : (t : ℕ) → Shift t → t ≤ z
+    under t (inl w) = omega (arith, w.1)
+    under t (inr w) = omega (arith, w.0, w.1)
 
-      -- the shifted significand keeps to the precision
-      pub shifted_small : r * 2 ^ t < 2 ^ f.precision
-      shifted_small =
-          let l = shl_lt (size r) t (size-lt r) in
-          lt_of_lt_of_le l (pow_mono {i = size r + t} {j = f.precision} (omega (arith, zeros, shift_under.0)))
+    magnitude_is : (t : ℕ) → Shift t → (e - 1 - t) * leading f + r * 2 ^ t ≡ magnitude f k
+    magnitude_is t (inl w) = rw w.1 (sym (normal w.0))
+    magnitude_is t (inr w) = rw w.1 (sym (denormal w.0))
 
-      -- and all of it to the word
-      pub written_fits : sign + ((e - 1 - t) * leading f + r * 2 ^ t) < 2 ^ 64
-      written_fits =
-          let h = leading f in
-          let l : (e - 1 - t + 2) * h ≤ (top_field f + 1) * h = mul-le-mul_right h (omega (arith, high)) in
-          omega (arith, signed, sign_most f n, sign_small f s, sign_is f s, shifted_small, twice f s, l)
-
-      pub written_is : sign + ((e - 1 - t) * leading f + r * 2 ^ t) ≡ pattern f n k
-      written_is =
-          let m : (e - 1 - t) * leading f + r * 2 ^ t ≡ magnitude f k = ⊎_elim (λ w. rw w.1 (sym (normal w.0))) (λ w. rw w.1 (sym (denormal w.0))) shift in
-          (λ i. signed i + m i) ∙ sym (signed_pattern f n k)
+    pub written : (t : ℕ) → Shift t → Written t
+    written t shift =
+        let h = leading f in
+        let small : r * 2 ^ t < 2 ^ f.precision = lt_of_lt_of_le (shl_lt (size r) t (size-lt r)) (pow_mono {i = size r + t} {j = f.precision} (omega (arith, zeros, under t shift))) in
+        let l : (e - 1 - t + 2) * h ≤ (top_field f + 1) * h = mul-le-mul_right h (omega (arith, high)) in
+        record {
+          whole = mod-eq_of_lt (omega (arith, small, twice f s, leading_small f s));
+          fits = omega (arith, signed, sign_most f n, sign_small f s, sign_is f s, small, twice f s, l);
+          is = (λ i. signed i + magnitude_is t shift i) ∙ sym (signed_pattern f n k);
+        }

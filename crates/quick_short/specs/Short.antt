@@ -1,9 +1,11 @@
 -- Formats with short significands, and the normal numbers of their patterns. Nothing to believe: these only name the code's own values.
-use Rattle.std.specs.Prelude.{ℕ, ◌+◌, ◌/◌, ◌%◌, ◌≤◌, ◌≡◌, Bool, ◌&&◌, ◌||◌, ltb, leb}
-use Rattle.definitions.specs.Format.{Format, top_field, leading, field_weight}
+use Rattle.std.specs.Prelude.{ℕ, ◌+◌, ◌/◌, ◌%◌, ◌≤◌, ◌≡◌, Bool, ◌&&◌, ◌||◌, ltb, leb, refl}
+use lib.Dec.{lit≤}
+use Rattle.definitions.specs.Format.{Format, binary16, binary32, top_field, leading, field_weight}
 use Rattle.definitions.specs.declared.Kind.{Kind}
 use Rattle.definitions.specs.declared.Layout.TheVariants.{Hidden}
 use Rattle.shapes.specs.Shape.{Sound}
+use Rattle.shapes.proofs.Sounds.{sound16, sound32}
 use Rattle.quick.specs.Common.{margin_of}
 
 -- 24 digits at most, the leading one hidden
@@ -11,6 +13,12 @@ pub record Short (f : Format) : Type 0 where
   pub sound : Sound f
   pub few : f.precision ≤ 24
   pub hidden : f.layout ≡ Hidden
+
+pub short16 : Short binary16
+short16 = record { sound = sound16; few = lit≤ tt; hidden = refl }
+
+pub short32 : Short binary32
+short32 = record { sound = sound32; few = lit≤ tt; hidden = refl }
 
 abbrev pub field_of : Format → ℕ → ℕ
 field_of f b = b / field_weight f % (top_field f + 1)

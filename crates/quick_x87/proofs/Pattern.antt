@@ -38,7 +38,10 @@ module _ (n : Bool) (sign : ℕ) (signed : sign ≡ cond n 32768 0) where
   unfolding magnitude
   zero_pattern k e = rw (← add-zero sign) (pattern_is k 0 0 (rw (e, size_zero)))
 
-  module _ (r f : ℕ) (g : Given x87 0 r f) where
+  module _ (r f : ℕ) (some : 0 < r) (word : r < 2 ^ 64) (low : 1 ≤ f) where
+    g : Given x87 0 r f
+    g = record { full = refl; ends = omega arith; some = some; word = word; low = low }
+
     abbrev z : ℕ
     z = count_leading_zeros 64 r
 

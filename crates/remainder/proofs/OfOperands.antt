@@ -1,4 +1,5 @@
 -- The remainder of two operands, in every format: what the verdict says of them, and what each verdict is answered with. Assumes nothing.
+use Rattle.std.specs.Prelude.{Ok, Err}
 use mathlib.Core.Path.{◌≡◌, refl, sym, ap, ◌∙◌}
 use mathlib.Core.Bool.{Bool, cond}
 use Prim.Native.Nat.{ℕ}
@@ -10,8 +11,8 @@ use Rattle.definitions.specs.Remainder.{remainder_of}
 use Rattle.definitions.specs.Answers.{remainder_meaning, refusal_number, joined}
 use Rattle.definitions.specs.declared.Kind.{Kind}
 use Rattle.definitions.specs.declared.Refusal.{Refusal}
-use Rattle.definitions.specs.declared.Pattern.{Pattern}
-use Rattle.definitions.specs.declared.RemainderAnswer.TheVariants.{Finished, Refused}
+use Rattle.definitions.specs.declared.Refused.{Refused}
+use Rattle.definitions.specs.declared.Residue.{Residue}
 use Rattle.operands.specs.declared.Operand.{Operand}
 use Rattle.operands.specs.declared.Operand.TheVariants.{Unsupported, Nan, Infinite, Zero, Finite}
 use Rattle.operands.specs.Operand.{class_in, value_in, value_operand, divisor_operand, divisor_in}
@@ -44,11 +45,11 @@ module _ (f : Format) (ok : Sound f) where
 
 module _ (f : Format) (ok : Sound f) where
   module _ (x y : Operand) (κ : Kind) where
-    pub refused : (w : Refusal) (v : Pattern) → first (dividing (class_in f.smallest x) (class_in f.smallest y)) ≡ refusal_number w
-        → joined v ≡ refused_value f (refusal_number w) (class_in f.smallest x) (class_in f.smallest y)
-        → remainder_meaning (Refused w v) ≡ remainder_of f κ (class_in f.smallest x) (class_in f.smallest y)
+    pub refused : (w : Refusal) (r : Refused) → first (dividing (class_in f.smallest x) (class_in f.smallest y)) ≡ refusal_number w → r.why ≡ w
+        → joined r.value ≡ refused_value f (refusal_number w) (class_in f.smallest x) (class_in f.smallest y)
+        → remainder_meaning (Err r) ≡ remainder_of f κ (class_in f.smallest x) (class_in f.smallest y)
     unfolding remainder_meaning remainder_of
-    refused w v e i = rw (e, refusal_refuses w, ← i)
+    refused w r e i j = rw (i, e, refusal_refuses w, ← j)
 
     module _ (none : first (dividing (class_in f.smallest x) (class_in f.smallest y)) ≡ 0) where
       pair : AcceptedPair (class_in f.smallest x) (class_in f.smallest y)
@@ -57,7 +58,7 @@ module _ (f : Format) (ok : Sound f) where
       pub dividend_stands : Stands f x → StandsValue f x
       dividend_stands s = stands_finite f ok pair.value x s pair.dividend
 
-      pub answered : (p : Pattern) (q : ℕ) → Writes f (joined p) q (finish κ (divisor_in f.smallest (divisor_operand y)) (value_operand f.smallest x))
-          → remainder_meaning (Finished p q) ≡ remainder_of f κ (class_in f.smallest x) (class_in f.smallest y)
+      pub answered : (a : Residue ℕ) → Writes f (joined a.value) a.quotient (finish κ (divisor_in f.smallest (divisor_operand y)) (value_operand f.smallest x))
+          → remainder_meaning (Ok a) ≡ remainder_of f κ (class_in f.smallest x) (class_in f.smallest y)
       unfolding remainder_meaning remainder_of
-      answered p q w = rw (none, ← divisor_is f ok y pair.divisor.not_zero) (λ i. record { number = 0; value = w.0 i; quotient = w.1 i })
+      answered a w = rw (none, ← divisor_is f ok y pair.divisor.not_zero) (λ i. record { number = 0; value = w.0 i; quotient = w.1 i })

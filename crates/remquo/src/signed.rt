@@ -3,14 +3,13 @@ ghost use Rattle.std.specs.Prelude.{◌≡◌, ℤ};
 ghost use Rattle.definitions.specs.Signed.{negative_class, signed_of};
 ghost use Rattle.definitions.specs.Answers.{signed_meaning};
 ghost use Rattle.operands.specs.Operand.{class_in};
-ghost use Rattle.shapes.specs.Shape.{format_of, Sound};
-ghost use Rattle.packing.specs.Stands.{Stands};
 
-use definitions::{Kind, RemainderAnswer, SignedAnswer};
+use definitions::{Kind, Refused, Residue};
 use operands::Operand;
+use packing::held::Held;
 use quotients::with_sign;
 use remainder::divided::remainder_of;
-use shapes::shape::Shape;
+use shapes::format::Format;
 
 // Whether an operand has a minus sign; of one that is always refused it is not looked at.
 fn is_negative(x: Operand) -> bool
@@ -25,18 +24,16 @@ fn is_negative(x: Operand) -> bool
     }
 }
 
-pub fn signed_of(shape: Shape, x: Operand, y: Operand, kind: Kind) -> SignedAnswer
-    requires { Sound (format_of shape) × Stands (format_of shape) x × Stands (format_of shape) y }
-    ensures { signed_meaning result ≡ signed_of (format_of shape) kind (class_in shape.smallest x) (class_in shape.smallest y) }
+pub fn signed_of<F: Format>(x: Held<F>, y: Held<F>, kind: Kind) -> Result<Residue<i32>, Refused>
+    ensures { signed_meaning result ≡ signed_of F.format kind (class_in F.format.smallest x) (class_in F.format.smallest y) }
 {
-    match remainder_of(shape, x, y, kind) {
-        RemainderAnswer::Finished { value, quotient } => {
-            let negative = is_negative(x) != is_negative(y);
-            SignedAnswer::Finished {
-                value,
-                quotient: with_sign(negative, quotient),
-            }
-        }
-        RemainderAnswer::Refused { why, value } => SignedAnswer::Refused { why, value },
-    }
+    let residue = remainder_of(x, y, kind)?;
+    let dividend = x.operand();
+    let divisor = y.operand();
+    let negative = is_negative(dividend) != is_negative(divisor);
+    let value = residue.value;
+    Ok(Residue {
+        value,
+        quotient: with_sign(negative, residue.quotient),
+    })
 }

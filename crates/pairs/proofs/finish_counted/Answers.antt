@@ -31,9 +31,9 @@ returns c =
     let a = c.args in
     let d = a.x.exponent -ℤ a.y.exponent in
     let left = rw gap_back at c.if-d-lt0.false in
-    let quotient : c.divide_counted-counted.result.divided ≡ divided_of a.x.significand a.y.significand (nat_abs d) = rw gap_back at e.divided in record {
+    let quotient : c.divide_counted-counted.result.value ≡ divided_of a.x.significand a.y.significand (nat_abs d) = rw gap_back at e.divided in record {
       left = λ s v w ux uy.
-          c.settle.ensures ∙ ap (settled_of a.kind a.x.negative c.divide_counted-counted.result.divided a.y.significand) exponent_back
+          c.settle.ensures ∙ ap (settled_of a.kind a.x.negative c.divide_counted-counted.result.value a.y.significand) exponent_back
           ∙ ap (λ (q : Divided). settled_of a.kind a.x.negative q a.y.significand a.y.exponent) quotient
           ∙ settled_pair a.kind s v w a.x a.y ux uy left;
       divisions = rw left (rw gap_back at e.divisions);

@@ -7,9 +7,5 @@ use Rattle.quick.proofs.divide_quick.Goals as goal
 pub divide_once-requires : goal.divide_once-requires
 divide_once-requires c = (c.requires, trailing_mod c.args.b c.args.places c.if-places-b.true)
 
-pub returns-then-places-b : goal.returns-then-places-b
-returns-then-places-b c =
-    let a = c.args in record {
-      divided = c.divide_once.ensures;
-      divisions = counted_once a.a a.b a.places (lt_of_lt_of_le (pow_pos 63) c.requires) c.ranges.b.fits c.if-places-b.true;
-    }
+pub returns-then-places-b-clause-divisions : goal.returns-then-places-b-clause-divisions
+returns-then-places-b-clause-divisions c = counted_once c.args.a c.args.b c.args.places (lt_of_lt_of_le (pow_pos 63) c.requires) c.ranges.b.fits c.if-places-b.true

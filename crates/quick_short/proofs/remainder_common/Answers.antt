@@ -1,7 +1,7 @@
 -- `remainder_common` meets its contract: its calls, put together.
 use mathlib.Core.Path.{◌≡◌, sym, ap, ◌∙◌}
 use Prim.Native.Nat.{ℕ, ◌-◌, ◌*◌, ◌^◌}
-use native.Mathlib.Nat.{mul-one, div-one, le_of_lt}
+use native.Mathlib.Nat.{mul-one, zero-add, div-one, le_of_lt}
 use lib.Dec.{leb}
 use Rattle.definitions.specs.Class.{finite}
 use Rattle.definitions.specs.Format.{Format, sign_weight, pattern_of}
@@ -9,7 +9,6 @@ use Rattle.definitions.specs.Division.{rounds_up}
 use Rattle.definitions.specs.Remainder.{remainder}
 use Rattle.division.specs.declared.Divided.{Divided}
 use Rattle.division.specs.Divided.{divided_of}
-use Rattle.shapes.specs.Shape.{format_of}
 use Rattle.quick.specs.Settled.{settled_of}
 use Rattle.quick.specs.declared.Settled.{Settled}
 use Rattle.quick.proofs.Normals.{normal_significand, significand_pos}
@@ -20,15 +19,15 @@ use Rattle.quick_short.proofs.Formats.{significand_is, significand_short}
 use Rattle.quick_short.proofs.remainder_common.Goals as goal
 
 pub divide_short-left-requires : goal.divide_short-left-requires
-divide_short-left-requires c =
+divide_short-left-requires g c =
     let f : Format =
-    format_of c.args.shape
+    g.F.Format.format
     in
     let short : Short f =
-    c.requires.0
+    g.met.F.Short.short
     in
     let fields : Ordered f short c.args.x c.args.y =
-    ordered f short c.args.x c.args.y c.requires.1
+    ordered f short c.args.x c.args.y c.requires
     in
     let b : ℕ =
     c.significand_of-divisor.result
@@ -46,9 +45,9 @@ divide_short-left-requires c =
     )
 
 pub returns : goal.returns
-returns c =
+returns g c =
     let f : Format =
-    format_of c.args.shape
+    g.F.Format.format
     in
     let b : ℕ =
     c.significand_of-divisor.result
@@ -67,10 +66,10 @@ returns c =
     c.field_of-field.result
     in
     let short : Short f =
-    c.requires.0
+    g.met.F.Short.short
     in
     let fields : Ordered f short c.args.x c.args.y =
-    ordered f short c.args.x c.args.y c.requires.1
+    ordered f short c.args.x c.args.y c.requires
     in
     let a : ℕ =
     c.significand_of.result
@@ -105,5 +104,5 @@ returns c =
     ∙ left_answer f 0 x y a b o.dividend o.divisor o.order x_word y_word left left_is c.args.kind S e
     in
     let r = c.settle-settled.result in
-    let value = c.written.ensures ∙ ap (λ (k : ℕ). pattern_of f (finite (record { negative = r.negative; count = k * 2 ^ (field - 1) }))) (sym (div-one r.rest)) in
+    let value = zero-add c.written.result ∙ c.written.ensures ∙ ap (λ (k : ℕ). pattern_of f (finite (record { negative = r.negative; count = k * 2 ^ (field - 1) }))) (sym (div-one r.rest)) in
     (λ i. record { number = 0; value = value i; quotient = c.quotient_bits.ensures i }) ∙ answer r settled_is

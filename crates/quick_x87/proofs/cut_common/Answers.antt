@@ -16,16 +16,11 @@ use Rattle.quick_x87.proofs.cut_common.Goals as goal
 
 pub returns : goal.returns
 returns c κ =
-    let pair : Parts c.args.x c.args.xw × Parts c.args.y c.args.yw =
-    let f = c.ranges in both _ _ _ _ f.x.fits f.xw.fits f.y.fits f.yw.fits c.requires.0
-    in
-    let small : c.args.size ≤ 63 =
-    (sized_bounds c.args.size c.requires.3).1
-    in
+    let p : Parts c.args.x.significand c.args.x.word × Parts c.args.y.significand c.args.y.word = both _ _ _ _ (omega arith) (omega arith) (omega arith) (omega arith) c.requires.0 in
+    let small : c.args.size ≤ 63 = (sized_bounds c.args.size c.requires.3).1 in
     let a = c.args in
-    let p = pair in
-    let q = a.x * 2 ^ a.size / a.y in
-    let places : a.gap - a.size + a.size ≡ exponent_field x87 (words a.xw a.x) - exponent_field x87 (words a.yw a.y) = omega (arith, small, c.requires.1, c.requires.2, p.0.field, p.1.field) in
+    let q = a.x.significand * 2 ^ a.size / a.y.significand in
+    let places : a.gap - a.size + a.size ≡ exponent_field x87 (words a.x.word a.x.significand) - exponent_field x87 (words a.y.word a.y.significand) = omega (arith, small, c.requires.1, c.requires.2, p.0.field, p.1.field) in
     let rest = ap (λ (l : Divided). l.remainder) c.divide_quick-left.ensures in
     let field = c.field_of.ensures ∙ sym p.0.field in
     let part : c.shifted-quotient.result ≡ q * 2 ^ (a.gap - a.size) % 2 ^ 32 =
@@ -37,5 +32,4 @@ returns c κ =
       quotient = quotient i;
       steps = 1;
     })
-    ∙ sym (cut_report (words a.xw a.x) (words a.yw a.y) p.0.normal p.1.normal a.size c.requires.3 κ (omega (arith, places, c.requires.2, small)) (a.gap - a.size) places
-    ∙ rw (p.0.significand, p.1.significand))
+    ∙ sym (cut_report _ _ p.0.normal p.1.normal a.size c.requires.3 κ (omega (arith, places, c.requires.2, small)) (a.gap - a.size) places ∙ rw (p.0.significand, p.1.significand))

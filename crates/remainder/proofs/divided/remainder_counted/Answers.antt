@@ -2,34 +2,39 @@
 use mathlib.Core.Path.{◌≡◌}
 use Rattle.definitions.specs.Numbers.{first, dividing}
 use Rattle.operands.specs.Operand.{class_in}
-use Rattle.shapes.specs.Shape.{format_of}
 use Rattle.checks.proofs.Judged.{refused_number, accepted_number}
 use Rattle.packing.proofs.Standing.{divisor_stands}
 use Rattle.remainder.proofs.OfOperands.{refused_none, refused, dividend_stands, answered}
+use Rattle.remainder.proofs.divided.remainder_counted.Given.{Over}
+use Rattle.remainder.proofs.divided.remainder_counted.Goals.{In_default}
 use Rattle.remainder.proofs.divided.remainder_counted.Goals as goal
 
+accepted : (g : Over) (c : In_default g) → let s = g.F.Format.format.smallest in first (dividing (class_in s c.operand-dividend.result) (class_in s c.operand-divisor.result)) ≡ 0
+accepted g c = accepted_number _ _ c.in_default.is (c.judge_pair.ensures g.F.Format.format.smallest _ _ c.operand-dividend.ensures.stands.is c.operand-divisor.ensures.stands.is)
+
+pub returns-in-Err : goal.returns-in-Err
+returns-in-Err g c =
+    let f = g.F.Format.format in
+    let ok = g.met.F.Format.sound in
+    let a = c.args in
+    let r = c.refused in
+    let n = refused_number _ _ _ c.in-Err.is (c.judge_pair.ensures f.smallest _ _ c.operand-dividend.ensures.stands.is c.operand-divisor.ensures.stands.is) in
+    rw (← c.operand-dividend.ensures.is, ← c.operand-divisor.ensures.is) (record {
+      answer = refused f ok c.operand-dividend.result c.operand-divisor.result a.kind _ r.result n r.ensures.why (rw (← c.operand-dividend.ensures.is, ← c.operand-divisor.ensures.is) at r.ensures.value);
+      divisions = refused_none f ok c.operand-dividend.result c.operand-divisor.result c.operand-divisor.ensures.stands c.in-Err.why n;
+    })
+
 pub divide_by_counted-counted-requires : goal.divide_by_counted-counted-requires
-divide_by_counted-counted-requires c =
-    let none : let s = c in first (dividing (class_in s.args.shape.smallest s.args.x) (class_in s.args.shape.smallest s.args.y)) ≡ 0 =
-    accepted_number _ _ c.in-Accepted.is (c.judge_pair.ensures c.args.shape.smallest _ _ c.requires.1.is c.requires.2.is)
-    in
-    let f = format_of c.args.shape in
-    (c.requires.0, dividend_stands f c.requires.0 c.args.x c.args.y c.args.kind none c.requires.1, rw c.divisor_of.ensures (divisor_stands f c.requires.0 c.args.y c.requires.2))
+divide_by_counted-counted-requires g c =
+    let f = g.F.Format.format in
+    let ok = g.met.F.Format.sound in
+    let a = c.args in
+    let none = accepted g (goal.at.divide_by_counted-counted-requires g c).In_default in
+    (dividend_stands f ok c.operand-dividend.result c.operand-divisor.result a.kind none c.operand-dividend.ensures.stands, rw c.divisor_of.ensures (divisor_stands f ok c.operand-divisor.result c.operand-divisor.ensures.stands))
 
-pub returns-in-Refused : goal.returns-in-Refused
-returns-in-Refused c =
-    let f = format_of c.args.shape in
-    let n = refused_number _ _ _ c.in-Refused.is (c.judge_pair.ensures c.args.shape.smallest _ _ c.requires.1.is c.requires.2.is) in record {
-      answer = refused f c.requires.0 c.args.x c.args.y c.args.kind _ _ n c.refused_value.ensures;
-      divisions = refused_none f c.requires.0 c.args.x c.args.y c.requires.2 c.in-Refused.why n;
-    }
-
-pub returns-in-Accepted : goal.returns-in-Accepted
-returns-in-Accepted c =
-    let none : let s = c in first (dividing (class_in s.args.shape.smallest s.args.x) (class_in s.args.shape.smallest s.args.y)) ≡ 0 =
-    accepted_number _ _ c.in-Accepted.is (c.judge_pair.ensures c.args.shape.smallest _ _ c.requires.1.is c.requires.2.is)
-    in
-    let e = rw c.divisor_of.ensures at c.divide_by_counted-counted.ensures in record {
-      answer = answered (format_of c.args.shape) c.requires.0 c.args.x c.args.y c.args.kind none _ _ (e.value, e.quotient);
-      divisions = e.divisions;
-    }
+pub returns-clause-answer : goal.returns-clause-answer
+returns-clause-answer g c =
+    let a = c.args in
+    let none = accepted g (goal.at.returns-clause-answer g c).In_default in
+    let e = rw c.divisor_of.ensures at c.divide_by_counted-counted.ensures in
+    rw (← c.operand-dividend.ensures.is, ← c.operand-divisor.ensures.is) (answered g.F.Format.format g.met.F.Format.sound c.operand-dividend.result c.operand-divisor.result a.kind none c.divide_by_counted-counted.result.value (e.value, e.quotient))

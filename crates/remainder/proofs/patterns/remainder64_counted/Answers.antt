@@ -5,53 +5,36 @@ use Rattle.definitions.specs.Format.{binary64, class_of}
 use Rattle.pairs.specs.Divisions.{divisions, gap_of}
 use Rattle.pairs.proofs.Divisions.{few_divisions}
 use Rattle.quick.proofs.Fields.{fields, dividend, divisor, below, dividend_below, divisor_above}
-use Rattle.remainder.proofs.OfPatterns.{word_answer, normals_denormal}
+use Rattle.remainder.proofs.OfPatterns.{normals_told}
 use Rattle.remainder.proofs.patterns.remainder64_counted.Goals as goal
 
--- the count, and its bound
-counted : (x y n : ℕ) → n ≡ divisions binary64 x y → (n ≡ divisions binary64 x y) × (n ≤ gap_of (class_of binary64 x) (class_of binary64 y) / 11 + 2)
-counted x y n e = (e, rw e (few_divisions binary64 x y))
+few : (x y n : ℕ) → n ≡ divisions binary64 x y → n ≤ gap_of (class_of binary64 x) (class_of binary64 y) / 11 + 2
+few x y n e = rw e (few_divisions binary64 x y)
 
 pub returns-then-is_kept : goal.returns-then-is_kept
 returns-then-is_kept c =
-    let t = c.told_of in
+    let x = c.args.x.0 in
+    let y = c.args.y.0 in
+    let t = c.told_counted in
     let q = c.remainder_kept in
-    let a = c.args in
-    let f = below a.kind a.x a.y (sym c.is_kept.ensures ∙ c.if-is_kept.true) in record {
-      answer = word_answer a.kind a.x a.y q.result.value q.result.quotient t.result.told.answer t.ensures.answer q.ensures.answer;
-      denormal = t.ensures.denormal ∙ normals_denormal binary64 a.kind a.x a.y (dividend_below a.kind a.x a.y f) (divisor_above a.kind a.x a.y f);
-      divisions = (counted a.x a.y _ (t.ensures.divisions ∙ q.ensures.divisions)).0;
-      few = (counted a.x a.y _ (t.ensures.divisions ∙ q.ensures.divisions)).1;
-    }
+    let f = below c.args.kind x y (sym c.is_kept.ensures ∙ c.if-is_kept.true) in
+    let k = normals_told binary64 c.args.kind x y (dividend_below c.args.kind x y f) (divisor_above c.args.kind x y f) q.result.value t.result.value t.ensures.answer t.ensures.denormal q.ensures.answer in
+    let d = t.ensures.divisions ∙ q.ensures.divisions in
+    record { answer = k.0; denormal = k.1; divisions = d; few = few x y _ d }
 
-pub returns-then-is_below : goal.returns-then-is_below
-returns-then-is_below c =
-    let e = c.remainder64_general.ensures in
-    let a = c.args in record {
-      answer = e.answer;
-      denormal = e.denormal;
-      divisions = (counted a.x a.y _ e.divisions).0;
-      few = (counted a.x a.y _ e.divisions).1;
-    }
+pub returns-then-is_below-clause-few : goal.returns-then-is_below-clause-few
+returns-then-is_below-clause-few c = few _ _ _ c.remainder64_general.ensures.divisions
 
 pub returns-then-is_common : goal.returns-then-is_common
 returns-then-is_common c =
-    let t = c.told_of-then-is_common in
+    let x = c.args.x.0 in
+    let y = c.args.y.0 in
+    let t = c.told_counted-then-is_common in
     let q = c.remainder_common in
-    let a = c.args in
-    let f = fields a.x a.y (sym c.is_common.ensures ∙ c.if-is_common.true) in record {
-      answer = word_answer a.kind a.x a.y q.result.value q.result.quotient t.result.told.answer t.ensures.answer q.ensures.answer;
-      denormal = t.ensures.denormal ∙ normals_denormal binary64 a.kind a.x a.y (dividend a.x a.y f) (divisor a.x a.y f);
-      divisions = (counted a.x a.y _ (t.ensures.divisions ∙ q.ensures.divisions)).0;
-      few = (counted a.x a.y _ (t.ensures.divisions ∙ q.ensures.divisions)).1;
-    }
+    let f = fields x y (sym c.is_common.ensures ∙ c.if-is_common.true) in
+    let k = normals_told binary64 c.args.kind x y (dividend x y f) (divisor x y f) q.result.value t.result.value t.ensures.answer t.ensures.denormal q.ensures.answer in
+    let d = t.ensures.divisions ∙ q.ensures.divisions in
+    record { answer = k.0; denormal = k.1; divisions = d; few = few x y _ d }
 
-pub returns : goal.returns
-returns c =
-    let e = c.remainder64_general-2.ensures in
-    let a = c.args in record {
-      answer = e.answer;
-      denormal = e.denormal;
-      divisions = (counted a.x a.y _ e.divisions).0;
-      few = (counted a.x a.y _ e.divisions).1;
-    }
+pub returns-clause-few : goal.returns-clause-few
+returns-clause-few c = few _ _ _ c.remainder64_general-2.ensures.divisions
