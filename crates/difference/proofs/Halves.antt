@@ -70,12 +70,12 @@ module _ (f : Format) (ok : Sound f) where
         omega (arith, (value x sx).word, odd_below (2 ^ 63) (y.significand / 2) gap refl (omega (arith, (value y sy).word)))
 
     -- the words that the code subtracts, and the values
-    abbrev words : Value
+    abbrev pub words : Value
     words =
         exact_difference (record { negative = x.negative; count = x.significand / 2 })
         (record { negative = y.negative; count = odd_cut (y.significand / 2) gap })
 
-    abbrev exact : Value
+    abbrev pub exact : Value
     exact = exact_difference (value_in f.smallest x) (value_in f.smallest y)
 
     pub values_agree : Agrees f.precision place words exact

@@ -1,4 +1,5 @@
 pub mod Aligned
+pub mod Cases
 pub mod Halves
 pub mod Zeros
 pub mod OfPatterns

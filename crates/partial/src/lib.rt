@@ -1,4 +1,4 @@
-// A step of a finite value by a finite divisor that is not zero. Only crates of this repository call these, with operands as `unpack`
+// A step of a finite value. Only crates of this repository call these, with operands as `unpack`
 // makes them.
 #![tactic(auto)]
 
@@ -12,18 +12,11 @@ ghost use Rattle.definitions.specs.Reports.{sized};
 ghost use Rattle.pairs.specs.Pair.{left_of};
 ghost use Rattle.partial.specs.Stepped.{stepped_of};
 
-use definitions::Kind;
+use definitions::{Kind, Progress};
 use division::divide;
-use operands::{Divisor, Operand, Unpacked};
+use operands::{Operand, Unpacked};
 use pairs::{Left, finish_pair, gap, settle};
 use quotients::shifted;
-
-// What a step comes to: whether it finished, and what is left.
-#[derive(Clone, Copy)]
-pub struct Stepped {
-    pub done: bool,
-    pub left: Left,
-}
 
 // A partial step: of the quotient's `places` the first `size` are taken, and both kinds cut.
 fn cut_pair(x: Unpacked, y: Unpacked, size: u32, places: u32) -> Left
@@ -45,47 +38,29 @@ fn cut_pair(x: Unpacked, y: Unpacked, size: u32, places: u32) -> Left
     }
 }
 
-fn step_pair(kind: Kind, x: Unpacked, y: Unpacked, size: u32) -> Stepped
+fn step_pair(kind: Kind, x: Unpacked, y: Unpacked, size: u32) -> Progress<Left>
     requires { StandsValue x87 (Finite x) × StandsValue x87 (Finite y) × (sized size ≡ true) }
     ensures { result ≡ stepped_of (step_by kind size (value_in x87.smallest y).count (value_in x87.smallest x)) }
 {
     let d = gap(x, y);
     if d < 64 {
-        Stepped {
-            done: true,
-            left: finish_pair(kind, x, y, d),
-        }
+        Progress::Finished(finish_pair(kind, x, y, d))
     } else {
         let places = d as u32;
-        Stepped {
-            done: false,
-            left: cut_pair(x, y, size, places),
-        }
+        Progress::Unfinished(cut_pair(x, y, size, places))
     }
 }
 
 // A zero, and a value by an infinite divisor, finish as they are.
-pub fn step_value(kind: Kind, x: Operand, y: Divisor, size: u32) -> Stepped
+pub fn step_value(kind: Kind, x: Operand, y: Option<Unpacked>, size: u32) -> Progress<Left>
     requires { StandsValue x87 x × StandsDivisor x87 y × (sized size ≡ true) }
     ensures { result ≡ stepped_of (step kind size (divisor_in x87.smallest y) (value_operand x87.smallest x)) }
 {
-    let Operand::Finite(a) = x else {
-        return Stepped {
-            done: true,
-            left: Left {
-                value: x,
-                quotient: 0,
-            },
-        };
-    };
-    let Divisor::By(b) = y else {
-        return Stepped {
-            done: true,
-            left: Left {
-                value: x,
-                quotient: 0,
-            },
-        };
+    let (Operand::Finite(a), Some(b)) = (x, y) else {
+        return Progress::Finished(Left {
+            value: x,
+            quotient: 0,
+        });
     };
     step_pair(kind, a, b, size)
 }

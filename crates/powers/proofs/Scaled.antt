@@ -29,7 +29,8 @@ use Rattle.packing.proofs.Standing.{class_of_lem, stands_class}
 use Rattle.packing.proofs.Places.{Placed}
 use Rattle.powers.specs.Power.{far, offset_of}
 use Rattle.powers.specs.Scaled.{scaled_of}
-use Rattle.powers.specs.declared.value.ScaledOperand.{ScaledOperand}
+use Rattle.definitions.specs.declared.WithRounding.{WithRounding}
+use Rattle.operands.specs.declared.Operand.{Operand}
 use Rattle.powers.proofs.Powers.{scale_offset}
 
 module _ (f : Format) (ok : Sound f) (v : Value) (u : Unpacked) (p : Placed f v u) (k : ℤ) where
@@ -67,7 +68,7 @@ module _ (f : Format) (ok : Sound f) (v : Value) (u : Unpacked) (p : Placed f v 
       go false a b = le_trans (size_mono whole.quotient n (down_le (b tt))) p.held.range
 
   -- ---- the three answers, where the code counts places from `far` below the smallest
-  pub scaled_infinite : reach f + far ≤ place → scaled_of s (scale_value f v k) ≡ record { operand = Infinite v.negative; says = Up }
+  pub scaled_infinite : reach f + far ≤ place → scaled_of s (scale_value f v k) ≡ record { value = Infinite v.negative; says = Up }
   unfolding operand_of
   scaled_infinite h =
       let up : far ≤ offset_of k = omega (arith, p.range) in
@@ -97,25 +98,25 @@ module _ (f : Format) (ok : Sound f) (v : Value) (u : Unpacked) (p : Placed f v 
       ap (λ (z : ℕ). round z far) (sym (eq_of_mul-eq-mul_right (2 ^ 63) (pow_pos 63) (a * 2 ^ i * 2 ^ far) (n * 2 ^ offset_of k) m)) ∙ round_multiple (a * 2 ^ i) far
 
   pub scaled_exact : place < reach f + far → far + 63 ≤ place
-      → scaled_of s (scale_value f v k) ≡ record { operand = normal_of v.negative a (s +ℤ pos (place - (far + 63) + 63)); says = Exact }
+      → scaled_of s (scale_value f v k) ≡ record { value = normal_of v.negative a (s +ℤ pos (place - (far + 63) + 63)); says = Exact }
   scaled_exact h l =
       let i = place - (far + 63) in
       ap (scaled_of s) (scaled_in h) ∙ rw (whole_exact l, normal_operand s v.negative a (i + 63) (a * 2 ^ i) p.word (sym (shift_shift a i 63)))
 
   pub scaled_rounded : place < reach f + far → place ≤ far + 63
       → scaled_of s (scale_value f v k)
-      ≡ record { operand = normal_of v.negative (round a (far + 63 - place)).quotient (s +ℤ pos 63); says = (round a (far + 63 - place)).says }
+      ≡ record { value = normal_of v.negative (round a (far + 63 - place)).quotient (s +ℤ pos 63); says = (round a (far + 63 - place)).says }
   scaled_rounded h l =
       let c = round a (far + 63 - place) in
       let e : whole ≡ c = sym (round_same a (far + 63 - place) place (n * 2 ^ offset_of k) far 63 same (omega arith)) in
       ap (scaled_of s) (scaled_in h) ∙ rw (e, normal_operand s v.negative c.quotient 63 c.quotient (lt_of_le_of_lt (round_le a (far + 63 - place)) p.word) refl)
 
   -- ---- what is scaled can be packed, and its pattern is the report's
-  module _ (r : ScaledOperand) (is : r ≡ scaled_of s (scale_value f v k)) where
-    pub scaled_stands : Stands f r.operand
+  module _ (r : WithRounding Operand) (is : r ≡ scaled_of s (scale_value f v k)) where
+    pub scaled_stands : Stands f r.value
     scaled_stands =
-        stands_class f ok (scale_value f v k).class r.operand (scale_held f ok.regular v p.held k) (ap (λ (o : ScaledOperand). o.operand) is)
+        stands_class f ok (scale_value f v k).class r.value (scale_held f ok.regular v p.held k) (ap (λ (o : WithRounding Operand). o.value) is)
 
-    pub scaled_report_lem : record { number = 0; value = pattern_of f (class_in s r.operand); says = r.says } ≡ scale_of f (finite v) k
+    pub scaled_report_lem : record { number = 0; value = pattern_of f (class_in s r.value); says = r.says } ≡ scale_of f (finite v) k
     unfolding scale_of scale_class first
     scaled_report_lem = rw (not_zero n p.some, is, class_of_lem f ok (scale_value f v k).class (scale_held f ok.regular v p.held k))

@@ -2,7 +2,8 @@
 use Rattle.std.specs.Prelude.{ℤ}
 use Rattle.definitions.specs.Scale as definition
 use Rattle.operands.specs.Operand.{operand_of}
-use Rattle.powers.specs.declared.value.ScaledOperand.{ScaledOperand}
+use Rattle.operands.specs.declared.Operand.{Operand}
+use Rattle.definitions.specs.declared.WithRounding.{WithRounding}
 
-abbrev pub scaled_of : ℤ → definition.Scaled → ScaledOperand
-scaled_of s a = record { operand = operand_of s a.class; says = a.says }
+abbrev pub scaled_of : ℤ → definition.Scaled → WithRounding Operand
+scaled_of s a = record { value = operand_of s a.class; says = a.says }

@@ -9,11 +9,5 @@ pub const FAR: i32 = 65536;
 pub fn offset(power: i32) -> u32
     ensures { result ≡ offset_of power }
 {
-    if power < -FAR {
-        return 0;
-    }
-    if FAR < power {
-        return 2 * (FAR as u32);
-    }
-    (power + FAR) as u32
+    (power.clamp(-FAR, FAR) + FAR) as u32
 }

@@ -1,29 +1,26 @@
 // Scaling of a normal number to a normal one, and splitting of a normal number: another exponent field, beside the same sign and the same
-// stored significand. Nothing has to be normalised or rounded, and where the shape is known the places are constants.
-// Everything else goes the general way. Only crates of this repository call these, with the shape of a format.
+// stored significand. Nothing has to be normalised or rounded. Everything else goes the general way.
 #![tactic(auto)]
 
 ghost use Rattle.std.specs.Prelude.{◌≡◌, true, ◌+◌, ◌*◌, ◌≤◌, ◌<◌, pos, ◌+ℤ◌};
-ghost use Rattle.definitions.specs.Format.{patterns, top_field, field_weight, with_sign};
+ghost use Rattle.definitions.specs.Format.{top_field, field_weight, with_sign};
 ghost use Rattle.definitions.specs.Facts.{told_denormal};
 ghost use Rattle.definitions.specs.Scale.{scale_report, split_report};
 ghost use Rattle.definitions.specs.Answers.{joined, scale_meaning, split_meaning};
-ghost use Rattle.shapes.specs.Shape.{format_of, Sound};
 ghost use Rattle.quick_scaling.specs.Normal.{normal, stays_normal};
 
-use definitions::{Pattern, Rounding, ScaleAnswer, ScaleTold, SplitAnswer, SplitTold};
+use definitions::{Pattern, Rounding, Split, Told, WithRounding};
 use shapes::fields::{Fields, fields_of, pattern_of};
-use shapes::shape::{Shape, hidden_part, leading_weight, top_field};
+use shapes::format::{Format, hidden_part, leading_weight, top_field};
 
 // Neither the field 0 nor the largest, and a leading digit: x87 has patterns without it beside every field.
-pub fn is_normal(shape: Shape, pattern: Pattern) -> bool
-    requires { Sound (format_of shape) × (joined pattern < patterns (format_of shape)) }
-    ensures { result ≡ normal (format_of shape) (joined pattern) }
+pub fn is_normal<F: Format>(pattern: F) -> bool
+    ensures { result ≡ normal F.format (F.bits pattern) }
 {
-    let fields = fields_of(shape, pattern);
+    let fields = fields_of(pattern);
     0 < fields.field
-        && fields.field < top_field(shape)
-        && leading_weight(shape) <= hidden_part(shape) + fields.stored
+        && fields.field < top_field::<F>()
+        && leading_weight::<F>() <= hidden_part::<F>() + fields.stored
 }
 
 // Where a power takes a field to. An i64 holds the sum, whatever the power is.
@@ -35,59 +32,53 @@ fn reached(field: u64, power: i32) -> i64
 }
 
 // Whether a pattern is a normal number before and after.
-pub fn stays_normal(shape: Shape, pattern: Pattern, power: i32) -> bool
-    requires { Sound (format_of shape) × (joined pattern < patterns (format_of shape)) }
-    ensures { result ≡ stays_normal (format_of shape) (joined pattern) power }
+pub fn stays_normal<F: Format>(pattern: F, power: i32) -> bool
+    ensures { result ≡ stays_normal F.format (F.bits pattern) power }
 {
-    if is_normal(shape, pattern) {
-        let field = reached(fields_of(shape, pattern).field, power);
-        return 0 < field && field < (top_field(shape) as i64);
+    if is_normal(pattern) {
+        let field = reached(fields_of(pattern).field, power);
+        return 0 < field && field < (top_field::<F>() as i64);
     }
     false
 }
 
 // The same sign and the same stored significand beside another field.
-fn with_field(shape: Shape, fields: Fields, field: u64) -> Pattern
-    requires { Sound (format_of shape) × (field ≤ top_field (format_of shape)) × (fields.stored < field_weight (format_of shape)) }
-    ensures { joined result ≡ with_sign (format_of shape) fields.negative (field * field_weight (format_of shape) + fields.stored) }
+fn with_field<F: Format>(fields: Fields, field: u64) -> Pattern
+    requires { (field ≤ top_field F.format) × (fields.stored < field_weight F.format) }
+    ensures { joined result ≡ with_sign F.format fields.negative (field * field_weight F.format + fields.stored) }
 {
-    let moved = Fields {
-        negative: fields.negative,
-        field,
-        stored: fields.stored,
-    };
-    pattern_of(shape, moved)
+    pattern_of::<F>(Fields { field, ..fields })
 }
 
-pub fn scale_normal(shape: Shape, pattern: Pattern, power: i32) -> ScaleTold
-    requires { Sound (format_of shape) × (joined pattern < patterns (format_of shape)) × (stays_normal (format_of shape) (joined pattern) power ≡ true) }
-    ensures answer { scale_meaning result.answer ≡ scale_report (format_of shape) (joined pattern) power }
-    ensures denormal { result.denormal ≡ told_denormal (format_of shape) (scale_report (format_of shape) (joined pattern) power).number (joined pattern) (joined pattern) }
+pub fn scale_normal<F: Format>(pattern: F, power: i32) -> Told<WithRounding<Pattern>>
+    requires { stays_normal F.format (F.bits pattern) power ≡ true }
+    ensures answer { scale_meaning result.answer ≡ scale_report F.format (F.bits pattern) power }
+    ensures denormal { result.denormal ≡ told_denormal F.format (scale_report F.format (F.bits pattern) power).number (F.bits pattern) (F.bits pattern) }
 {
-    let fields = fields_of(shape, pattern);
-    ScaleTold {
-        answer: ScaleAnswer::Scaled {
-            value: with_field(shape, fields, reached(fields.field, power) as u64),
+    let fields = fields_of(pattern);
+    Told {
+        answer: Ok(WithRounding {
+            value: with_field::<F>(fields, reached(fields.field, power) as u64),
             says: Rounding::Exact,
-        },
+        }),
         denormal: false,
     }
 }
 
 // The field of a significand from 1 to below 2 is the bias.
-pub fn split_normal(shape: Shape, pattern: Pattern) -> SplitTold
-    requires { Sound (format_of shape) × (joined pattern < patterns (format_of shape)) × (normal (format_of shape) (joined pattern) ≡ true) }
-    ensures answer { split_meaning result.answer ≡ split_report (format_of shape) (joined pattern) }
-    ensures denormal { result.denormal ≡ told_denormal (format_of shape) (split_report (format_of shape) (joined pattern)).number (joined pattern) (joined pattern) }
+pub fn split_normal<F: Format>(pattern: F) -> Told<Split>
+    requires { normal F.format (F.bits pattern) ≡ true }
+    ensures answer { split_meaning result.answer ≡ split_report F.format (F.bits pattern) }
+    ensures denormal { result.denormal ≡ told_denormal F.format (split_report F.format (F.bits pattern)).number (F.bits pattern) (F.bits pattern) }
 {
-    let fields = fields_of(shape, pattern);
-    let significand = with_field(shape, fields, shape.bias as u64);
-    let exponent = (fields.field as i32) - (shape.bias as i32);
-    SplitTold {
-        answer: SplitAnswer::Parts {
+    let fields = fields_of(pattern);
+    let significand = with_field::<F>(fields, F::BIAS as u64);
+    let exponent = (fields.field as i32) - (F::BIAS as i32);
+    Told {
+        answer: Ok(Split {
             significand,
             exponent,
-        },
+        }),
         denormal: false,
     }
 }

@@ -14,17 +14,17 @@ use Rattle.definitions.specs.declared.Kind.TheVariants.{Nearest}
 use Rattle.definitions.specs.declared.Rounding.TheVariants.{Exact, Up, Down}
 use Rattle.laws.proofs.Division.{rounds_up_once}
 use Rattle.rounding.specs.Round.{round_of, rounded_of}
-use Rattle.rounding.specs.declared.RoundedWord.{RoundedWord}
+use Rattle.definitions.specs.declared.WithRounding.{WithRounding}
 
 module _ (q r m : ℕ) where
   -- the definition's answer is the code's: where nothing is left over, the test fails
-  pub rounded_once : 0 < m → record { quotient = cond (rounds_up Nearest q r m) (q + 1) q; says = direction (eqb r 0) (rounds_up Nearest q r m) }
+  pub rounded_once : 0 < m → record { value = cond (rounds_up Nearest q r m) (q + 1) q; says = direction (eqb r 0) (rounds_up Nearest q r m) }
       ≡ rounded_of q r (ltb m (r * 2 + q % 2))
   rounded_once h = rw (rounds_up_once q r m) (go (ltb m (r * 2 + q % 2)) (eqb r 0) refl refl)
     where
       go : (up none : Bool) → ltb m (r * 2 + q % 2) ≡ up → eqb r 0 ≡ none
-          → ◌≡◌ {A = RoundedWord} (record { quotient = cond up (q + 1) q; says = direction none up })
-          (cond none (record { quotient = q; says = Exact }) (cond up (record { quotient = q + 1; says = Up }) (record { quotient = q; says = Down })))
+          → ◌≡◌ {A = WithRounding ℕ} (record { value = cond up (q + 1) q; says = direction none up })
+          (cond none (record { value = q; says = Exact }) (cond up (record { value = q + 1; says = Up }) (record { value = q; says = Down })))
       go true true e f = absurd (omega (arith, ltb-true m (r * 2 + q % 2) e, eqb-true r 0 f))
       go false true e f = refl
       go true false e f = refl

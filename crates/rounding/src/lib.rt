@@ -4,34 +4,27 @@
 ghost use Rattle.std.specs.Prelude.{◌≡◌, ◌+◌, ◌<◌, ◌^◌};
 ghost use Rattle.rounding.specs.Round.{round_of, rounded_of};
 
-use definitions::Rounding;
-
-// The quotient is the one after rounding.
-#[derive(Clone, Copy)]
-pub struct RoundedWord {
-    pub quotient: u64,
-    pub says: Rounding,
-}
+use definitions::{Rounding, WithRounding};
 
 // A quotient with what was left over, and whether it goes up if anything was.
-fn rounded(quotient: u64, remainder: u64, up: bool) -> RoundedWord
+fn rounded(quotient: u64, remainder: u64, up: bool) -> WithRounding<u64>
     requires { 0 < remainder → quotient + 1 < 2 ^ 64 }
     ensures { result ≡ rounded_of quotient remainder up }
 {
     if remainder == 0 {
-        return RoundedWord {
-            quotient,
+        return WithRounding {
+            value: quotient,
             says: Rounding::Exact,
         };
     }
     if up {
-        RoundedWord {
-            quotient: quotient + 1,
+        WithRounding {
+            value: quotient + 1,
             says: Rounding::Up,
         }
     } else {
-        RoundedWord {
-            quotient,
+        WithRounding {
+            value: quotient,
             says: Rounding::Down,
         }
     }
@@ -40,7 +33,7 @@ fn rounded(quotient: u64, remainder: u64, up: bool) -> RoundedWord
 // n / 2^places to the nearest whole number, a half going to the even one. Cuts of no place and of 64 places or more are settled first.
 // Then it is one division by a power of two, which gives a quotient and a left-over, and one comparison of the left-over with half of that
 // power.
-pub fn round_places(n: u64, places: u32) -> RoundedWord
+pub fn round_places(n: u64, places: u32) -> WithRounding<u64>
     ensures { result ≡ round_of n places }
 {
     if places == 0 {

@@ -1,8 +1,9 @@
 -- What a call reports, by what its checks come to: a refusal, or its run written down. Assumes nothing.
-use mathlib.Core.Path.{◌≡◌, refl, sym, ap, ◌∙◌}
+use Rattle.std.specs.Prelude.{Err}
+use mathlib.Core.Path.{◌≡◌, sym, ap, ◌∙◌}
 use mathlib.Core.Bool.{Bool, true, false, not, cond}
 use mathlib.Core.List.{List, ◌++◌}
-use Prim.Native.Nat.{ℕ}
+use Prim.Native.Nat.{ℕ, ◌%◌, ◌^◌}
 use borrow.Author.Tests.{not-false}
 use lib.Dec.{eqb, lit<}
 use Rattle.definitions.specs.Class.{Class, finite}
@@ -12,12 +13,13 @@ use Rattle.definitions.specs.Facts.{refused_value}
 use Rattle.definitions.specs.Division.{Outcome, dividend_of, divisor_of}
 use Rattle.definitions.specs.Remainder.{quotient_bits}
 use Rattle.definitions.specs.Steps.{run}
-use Rattle.definitions.specs.Reports.{nothing, sized, calling, report_of, step_report, run_report}
+use Rattle.definitions.specs.Reports.{Report, nothing, sized, calling, report_of, step_report, run_report}
 use Rattle.definitions.specs.Answers.{refusal_number, steps_meaning, joined}
 use Rattle.definitions.specs.declared.Kind.{Kind}
-use Rattle.definitions.specs.declared.Pattern.{Pattern}
 use Rattle.definitions.specs.declared.Refusal.{Refusal}
-use Rattle.definitions.specs.declared.StepsAnswer.TheVariants.{Refused}
+use Rattle.definitions.specs.declared.Refused.{Refused}
+use Rattle.definitions.specs.declared.Progress.{Progress}
+use Rattle.definitions.specs.declared.Progress.TheVariants.{Finished, Unfinished}
 use Rattle.laws.proofs.Refusals.{refusal_refuses}
 use Rattle.chains.proofs.Run.{run_one}
 use Rattle.chains.proofs.Spent.{Judgement, refused, passed, refusal, numbered, result}
@@ -26,9 +28,9 @@ use Rattle.operands.specs.declared.Operand.{Operand}
 use Rattle.operands.specs.Operand.{operand_of, class_in, value_operand, divisor_operand, divisor_in}
 use Rattle.packing.specs.Stands.{Stands, StandsValue, StandsDivisor}
 use Rattle.shapes.proofs.Sounds.{sound80}
-use Rattle.packing.proofs.Standing.{class_of_lem, stands_finite, stands_pattern, class_pattern, divisor_stands, divisor_is}
+use Rattle.packing.proofs.Standing.{class_of_lem, stands_finite, class_pattern, divisor_stands, divisor_is}
 use Rattle.quotients.proofs.Bits.{bits_low}
-use Rattle.runs.specs.Ran.{ran_of}
+use Rattle.runs.specs.Ran.{ran_of, ran_in}
 use Rattle.steps.specs.Called.{ran_report, call_report}
 use Rattle.runs.specs.declared.Ran.{Ran}
 use Rattle.runs.proofs.Loop.{ran_held, ran_stands}
@@ -60,30 +62,36 @@ module _ (u : ℕ) (κ : Kind) (n budget : ℕ) (a b : Class) where
   outcome : Outcome
   outcome = run κ n budget (divisor_of b) (dividend_of a)
 
-  pub refused_call : (w : Refusal) (v : Pattern) → refusal nothing n a b ≡ refusal_number w → joined v ≡ refused_value x87 (refusal_number w) a b
-      → steps_meaning u (Refused w v) ≡ call_report u κ n budget a b
+  pub refused_call : (w : Refusal) (r : Refused) → refusal_number w ≡ refusal nothing n a b → r.why ≡ w → joined r.value ≡ refused_value x87 (refusal_number w) a b
+      → steps_meaning u (Err r) ≡ call_report u κ n budget a b
   unfolding first steps_meaning outcome
-  refused_call w v e i = rw (ended n a b (cond (not outcome.done) u 0), e, refusal_some w, refusal_refuses w, ← i)
+  refused_call w r e h i = rw (h, ended n a b (cond (not outcome.done) u 0), ← e, refusal_some w, refusal_refuses w, ← i)
 
   -- an accepted call's run, written down
-  pub accepted_call : accepted u ≡ true → refusal nothing n a b ≡ 0 → (t : Ran) → t ≡ ran_of (run κ n budget (divisor_of b) (dividend_of a))
+  pub accepted_call : accepted u ≡ true → refusal nothing n a b ≡ 0 → (t : Progress Ran) → t ≡ ran_of (run κ n budget (divisor_of b) (dividend_of a))
       → Representable x87 (run κ n budget (divisor_of b) (dividend_of a)).value.count → ran_report u t ≡ call_report u κ n budget a b
   unfolding first outcome
   accepted_call ok e t i h =
-      ap (λ (s : Ran). ran_report u s) i
-      ∙ (λ j. record { number = cond outcome.done 0 u; value = pattern_of x87 (class_of_lem x87 sound80 (finite outcome.value) h j); quotient = bits_low outcome.whole j; steps = outcome.steps })
-      ∙ go outcome.done ∙ sym (ap (λ (k : ℕ). report_of (refused_value x87 k a b) k outcome) (ended n a b (cond (not outcome.done) u 0) ∙ rw e))
+      ap (ran_report u) i ∙ go outcome.done
+      ∙ sym (ap (λ (k : ℕ). report_of (refused_value x87 k a b) k outcome) (ended n a b (cond (not outcome.done) u 0) ∙ rw e))
     where
-      go : (d : Bool) → record { number = cond d 0 u; value = pattern_of x87 (finite outcome.value); quotient = quotient_bits outcome.whole; steps = outcome.steps }
-          ≡ (let k = cond (not d) u 0 in report_of (refused_value x87 k a b) k outcome)
-      go true = refl
-      go false = rw ok
+      left : Ran
+      left = record { value = operand_of x87.smallest (finite outcome.value); quotient = outcome.whole % 2 ^ 32; steps = outcome.steps }
+
+      written : (k : ℕ) → ◌≡◌ {A = Report ℕ}
+          (record { number = k; value = pattern_of x87 (class_in x87.smallest left.value); quotient = quotient_bits left.quotient; steps = outcome.steps })
+          (record { number = k; value = pattern_of x87 (finite outcome.value); quotient = quotient_bits outcome.whole; steps = outcome.steps })
+      written k = λ j. record { number = k; value = pattern_of x87 (class_of_lem x87 sound80 (finite outcome.value) h j); quotient = bits_low outcome.whole j; steps = outcome.steps }
+
+      go : (d : Bool) → ran_report u (cond d (Finished left) (Unfinished left)) ≡ (let k = cond (not d) u 0 in report_of (refused_value x87 k a b) k outcome)
+      go true = written 0
+      go false = rw ok (written u)
 
 -- ---- what stands for the operands of an accepted call
 
-module _ (x y : Operand) (sx : Stands x87 x) (sy : Stands x87 y) (n : ℕ) (none : refusal nothing n (class_in x87.smallest x) (class_in x87.smallest y) ≡ 0) where
+module _ (x y : Operand) (sx : Stands x87 x) (sy : Stands x87 y) (n : ℕ) (none : 0 ≡ refusal nothing n (class_in x87.smallest x) (class_in x87.smallest y)) where
   right : (not (sized n) ≡ false) × (first (dividing (class_in x87.smallest x) (class_in x87.smallest y)) ≡ 0)
-  right = passes _ _ (lit< tt) (passes _ _ (lit< tt) none).1
+  right = passes _ _ (lit< tt) (passes _ _ (lit< tt) (sym none)).1
 
   pair : AcceptedPair (class_in x87.smallest x) (class_in x87.smallest y)
   pair = accepted_pair (class_in x87.smallest y) (class_in x87.smallest x) right.1
@@ -92,23 +100,20 @@ module _ (x y : Operand) (sx : Stands x87 x) (sy : Stands x87 y) (n : ℕ) (none
   pub ready_call : StandsValue x87 x × StandsDivisor x87 (divisor_operand y) × (sized n ≡ true)
   ready_call = (stands_finite x87 sound80 pair.value x sx pair.dividend, divisor_stands x87 sound80 y sy, not-false (sized n) right.0)
 
-  module _ (κ : Kind) (budget : ℕ) (t : Ran) (ran : t ≡ ran_of (run κ n budget (divisor_in x87.smallest (divisor_operand y)) (value_operand x87.smallest x))) where
+  module _ (κ : Kind) (budget : ℕ) (t : Progress Ran) (ran : t ≡ ran_of (run κ n budget (divisor_in x87.smallest (divisor_operand y)) (value_operand x87.smallest x))) where
     -- what the run leaves can be written down
-    pub ran_writable : StandsValue x87 t.value
+    pub ran_writable : StandsValue x87 (ran_in t).value
     ran_writable = ran_stands κ n x ready_call.0 (divisor_operand y) ready_call.1 budget t ran
 
     pub ran_call : (u : ℕ) → accepted u ≡ true → ran_report u t ≡ call_report u κ n budget (class_in x87.smallest x) (class_in x87.smallest y)
     ran_call u ok =
         let z = divisor_is x87 sound80 y pair.divisor.not_zero in
-        accepted_call u κ n budget (class_in x87.smallest x) (class_in x87.smallest y) ok none t (rw z at ran)
+        accepted_call u κ n budget (class_in x87.smallest x) (class_in x87.smallest y) ok (sym none) t (rw z at ran)
         (rw z at (ran_held κ n x ready_call.0 (divisor_operand y) ready_call.1 budget))
 
 -- ---- patterns, and the operands that they stand for
 
 module _ (i j : ℕ) (x y : Operand) (ex : x ≡ operand_of x87.smallest (class_of x87 i)) (ey : y ≡ operand_of x87.smallest (class_of x87 j)) where
-  pub patterns_stand : Stands x87 x × Stands x87 y
-  patterns_stand = (stands_pattern x87 sound80 i x ex, stands_pattern x87 sound80 j y ey)
-
   of_patterns : (u : ℕ) (κ : Kind) (n budget : ℕ) → call_report u κ n budget (class_in x87.smallest x) (class_in x87.smallest y) ≡ call_report u κ n budget (class_of x87 i) (class_of x87 j)
   of_patterns u κ n budget = λ k. call_report u κ n budget (class_pattern x87 sound80 i x ex k) (class_pattern x87 sound80 j y ey k)
 

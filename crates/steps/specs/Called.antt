@@ -1,5 +1,7 @@
 -- What a call reports. Nothing to believe: these only name the code's own values.
-use Rattle.std.specs.Prelude.{ℕ, not, cond, [], ◌∷◌, ◌++◌}
+use Rattle.std.specs.Prelude.{ℕ, not, [], ◌∷◌, ◌++◌}
+use Rattle.definitions.specs.declared.Progress.{Progress}
+use Rattle.definitions.specs.declared.Progress.TheVariants.{Finished, Unfinished}
 use Rattle.definitions.specs.Class.{Class}
 use Rattle.definitions.specs.Format.{x87, pattern_of}
 use Rattle.definitions.specs.Numbers.{check, first, dividing}
@@ -10,13 +12,20 @@ use Rattle.definitions.specs.Steps.{run}
 use Rattle.definitions.specs.Reports.{Report, nothing, calling, report_of}
 use Rattle.definitions.specs.declared.Kind.{Kind}
 use Rattle.operands.specs.Operand.{class_in}
+use Rattle.runs.specs.Ran.{ran_in}
 use Rattle.runs.specs.declared.Ran.{Ran}
 
--- what a run came to, written down, where an unfinished one has the number u
-abbrev pub ran_report : ℕ → Ran → Report ℕ
-ran_report u t =
+-- a run's number, where that of an unfinished one is u
+abbrev pub ran_number : ℕ → Progress Ran → ℕ
+ran_number u (Finished t) = 0
+ran_number u (Unfinished t) = u
+
+-- the same, written down
+abbrev pub ran_report : ℕ → Progress Ran → Report ℕ
+ran_report u r =
+    let t = ran_in r in
     record {
-      number = cond t.done 0 u;
+      number = ran_number u r;
       value = pattern_of x87 (class_in x87.smallest t.value);
       quotient = quotient_bits t.quotient;
       steps = t.steps;

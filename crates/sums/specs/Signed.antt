@@ -1,6 +1,6 @@
--- How the code holds a word with a sign. Nothing to believe: this only names the code's own value.
+-- The value of a word with a sign. Nothing to believe: this only names the code's own value.
 use Rattle.definitions.specs.Class.{Value}
 use Rattle.sums.specs.declared.words.SignedWord.{SignedWord}
 
-abbrev pub signed_of : Value → SignedWord
-signed_of v = record { negative = v.negative; word = v.count }
+abbrev pub value_of : SignedWord → Value
+value_of x = record { negative = x.negative; count = x.word }

@@ -5,12 +5,12 @@ ghost use Rattle.std.specs.Float.Ieee.{size};
 ghost use Rattle.definitions.specs.Difference.{rounded_to, limited};
 ghost use Rattle.operands.specs.Operand.{operand_of};
 ghost use Rattle.operands.specs.declared.Operand.TheVariants.{Finite};
-ghost use Rattle.shapes.specs.Shape.{format_of, Sound};
 ghost use Rattle.sums.specs.Limit.{limit_of};
 
+use crate::words::SignedWord;
 use operands::{Operand, Unpacked, normalise};
 use rounding::round_places;
-use shapes::shape::Shape;
+use shapes::format::Format;
 
 // The exponent that lies some places above the smallest place.
 fn exponent_above(smallest: i32, places: u32) -> i32
@@ -31,23 +31,21 @@ fn limit(value: Unpacked, bias: u32) -> Operand
     Operand::Finite(value)
 }
 
-// The value word × 2^(place − 62), counted from the smallest place. Its leading one is brought to bit 63, so that what lies below the
+// The value x × 2^(place − 62), counted from the smallest place. Its leading one is brought to bit 63, so that what lies below the
 // precision is always the same number of places.
-pub fn rounded_value(shape: Shape, negative: bool, word: u64, place: u32) -> Operand
-    requires { Sound (format_of shape) × (0 < word → 63 ≤ size word + place) × (place < 2 ^ 17) }
-    ensures { (c : ℕ) → rounded_to shape.precision word * 2 ^ place ≡ c * 2 ^ 62 → result ≡ operand_of shape.smallest (limited (format_of shape) negative c) }
+pub fn rounded_value<F: Format>(x: SignedWord, place: u32) -> Operand
+    requires { (0 < x.word → 63 ≤ size x.word + place) × (place < 2 ^ 17) }
+    ensures { (c : ℕ) → rounded_to F.format.precision x.word * 2 ^ place ≡ c * 2 ^ 62 → result ≡ operand_of F.format.smallest (limited F.format x.negative c) }
 {
-    if word == 0 {
-        return Operand::Zero(negative);
+    if x.word == 0 {
+        return Operand::Zero(x.negative);
     }
-    let shift = u64::leading_zeros(word);
-    let precision = shape.precision;
-    let bias = shape.bias;
-    let exponent = exponent_above(shape.smallest, place + 65 - (shift + precision));
-    let rounded = round_places(word << shift, 64 - precision);
-    let operand = normalise(negative, rounded.quotient, exponent);
+    let shift = x.word.leading_zeros();
+    let exponent = exponent_above(F::SMALLEST, place + 65 - (shift + F::PRECISION));
+    let rounded = round_places(x.word << shift, 64 - F::PRECISION);
+    let operand = normalise(x.negative, rounded.value, exponent);
     let Operand::Finite(value) = operand else {
         return operand;
     };
-    limit(value, bias)
+    limit(value, F::BIAS)
 }

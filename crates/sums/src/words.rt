@@ -2,7 +2,9 @@
 ghost use Rattle.std.specs.Prelude.{◌≡◌, ◌+◌, ◌<◌, ◌^◌};
 ghost use Rattle.definitions.specs.Difference.{exact_difference};
 ghost use Rattle.laws.specs.OddCut.{odd_cut};
-ghost use Rattle.sums.specs.Signed.{signed_of};
+ghost use Rattle.sums.specs.Signed.{value_of};
+
+use std::cmp::Ordering;
 
 // A word with a sign.
 #[derive(Clone, Copy)]
@@ -29,31 +31,29 @@ pub fn odd_cut(n: u64, places: u32) -> u64
     quotient / 2 * 2 + 1
 }
 
-// x − y, where `negative` is the sign of x and `other` that of y. Of two signs the words add up, and of two equal values it is +0.
-pub fn subtract(negative: bool, x: u64, other: bool, y: u64) -> SignedWord
-    requires { x + y < 2 ^ 64 }
-    ensures { result ≡ signed_of (exact_difference (record { negative = negative; count = x }) (record { negative = other; count = y })) }
+// x − y. Of two signs the words add up, and of two equal values it is +0.
+pub fn subtract(x: SignedWord, y: SignedWord) -> SignedWord
+    requires { x.word + y.word < 2 ^ 64 }
+    ensures { value_of result ≡ exact_difference (value_of x) (value_of y) }
 {
-    if negative != other {
+    if x.negative != y.negative {
         return SignedWord {
-            negative,
-            word: x + y,
+            word: x.word + y.word,
+            ..x
         };
     }
-    if y < x {
-        return SignedWord {
-            negative,
-            word: x - y,
-        };
-    }
-    if x < y {
-        return SignedWord {
-            negative: !negative,
-            word: y - x,
-        };
-    }
-    SignedWord {
-        negative: false,
-        word: 0,
+    match x.word.cmp(&y.word) {
+        Ordering::Greater => SignedWord {
+            word: x.word - y.word,
+            ..x
+        },
+        Ordering::Less => SignedWord {
+            negative: !x.negative,
+            word: y.word - x.word,
+        },
+        Ordering::Equal => SignedWord {
+            negative: false,
+            word: 0,
+        },
     }
 }

@@ -1,7 +1,10 @@
 -- `subtract_values` meets its contract: the value of the higher place goes first.
 use mathlib.Core.Path.{◌≡◌, ap, ◌∙◌}
-use Prim.Native.Nat.{◌^◌, ◌<◌}
+use Prim.Native.Nat.{ℕ, ◌^◌, ◌<◌}
 use native.Mathlib.Omega.{arith}
+use lib.Dec.{T}
+use lib.IntN.{ℤ}
+use lib.Signed.{le_z}
 use mir.Syntax.{w32}
 use mir.Val.{to_z, of_z}
 use Rattle.digits.proofs.Signed.{small_back}
@@ -9,74 +12,59 @@ use Rattle.definitions.specs.Format.{Format}
 use Rattle.operands.specs.Operand.{operand_of, place_in, value_in}
 use Rattle.operands.specs.declared.Operand.TheVariants.{Finite}
 use Rattle.operands.specs.declared.Unpacked.{Unpacked}
-use Rattle.shapes.specs.Shape.{format_of}
+use Rattle.shapes.specs.Shape.{Sound}
 use Rattle.packing.specs.Stands.{StandsValue}
 use Rattle.packing.proofs.Standing.{smallest_small}
 use Rattle.packing.proofs.Places.{Placed, placed}
 use Rattle.difference.proofs.Halves.{opposite_stands, opposite_difference}
 use Rattle.difference.proofs.values.subtract_values.Goals as goal
-use Rattle.difference.proofs.values.subtract_values.Goals.{Start}
 
-module _ (s : Start) where
-  abbrev f : Format
-  f = format_of s.args.shape
+-- the places of two values, as the machine reads the exponents
+module _ (f : Format) (ok : Sound f) (u : Unpacked) (stands : StandsValue f (Finite u)) (s : ℤ) (s-is : s ≡ f.smallest) where
+  value : Placed f (value_in f.smallest u) u
+  value = placed f ok u stands
 
-  smallest-back : to_z w32 (of_z w32 f.smallest) ≡ f.smallest
-  smallest-back = small_back f.smallest (omega (arith, smallest_small f s.requires.0))
+  smallest-back : to_z w32 (of_z w32 s) ≡ f.smallest
+  smallest-back = rw s-is (small_back f.smallest (omega (arith, smallest_small f ok)))
 
-  module _ (u : Unpacked) (stands : StandsValue f (Finite u)) where
-    value : Placed f (value_in f.smallest u) u
-    value = placed f s.requires.0 u stands
+  exponent-back : to_z w32 (of_z w32 u.exponent) ≡ u.exponent
+  exponent-back = small_back u.exponent (omega (arith, value.small))
 
-    exponent-back : to_z w32 (of_z w32 u.exponent) ≡ u.exponent
-    exponent-back = small_back u.exponent (omega (arith, value.small))
+  place-ready : T (le_z (to_z w32 (of_z w32 s)) (to_z w32 (of_z w32 u.exponent))) × (place_in (to_z w32 (of_z w32 s)) (to_z w32 (of_z w32 u.exponent)) < 2 ^ 20)
+  place-ready = rw (smallest-back, exponent-back) (value.above, omega (arith, value.range, ok.narrow, ok.short))
 
-    place-small : place_in f.smallest u.exponent < 2 ^ 20
-    place-small = omega (arith, value.range, s.requires.0.narrow, s.requires.0.short)
+  place-is : (p : ℕ) → p ≡ place_in (to_z w32 (of_z w32 s)) (to_z w32 (of_z w32 u.exponent)) → p ≡ place_in f.smallest u.exponent
+  place-is p is = rw (smallest-back, exponent-back) at is
 
 pub place_of-px-requires : goal.place_of-px-requires
-place_of-px-requires c =
-    let s = (goal.at.place_of-px-requires c).Start in
-    let u = c.args.x in
-    rw (smallest-back s, exponent-back s u c.requires.2) ((value s u c.requires.2).above, place-small s u c.requires.2)
+place_of-px-requires g c = place-ready g.F.Format.format g.met.F.Format.sound c.args.x c.requires.0 _ (c.SMALLEST.ensures ∙ g.met.F.Format.smallest_is)
 
 pub place_of-py-requires : goal.place_of-py-requires
-place_of-py-requires c =
-    let s = (goal.at.place_of-py-requires c).Start in
-    let u = c.args.y in
-    rw (smallest-back s, exponent-back s u c.requires.3) ((value s u c.requires.3).above, place-small s u c.requires.3)
+place_of-py-requires g c = place-ready g.F.Format.format g.met.F.Format.sound c.args.y c.requires.1 _ (c.SMALLEST-2.ensures ∙ g.met.F.Format.smallest_is)
 
 pub subtract_placed-requires : goal.subtract_placed-requires
-subtract_placed-requires c =
-    let s = (goal.at.subtract_placed-requires c).Start in
-    let px_is : c.place_of-px.result ≡ place_in (f s).smallest c.args.x.exponent =
-    rw (smallest-back s, exponent-back s c.args.x c.requires.2) at c.place_of-px.ensures
-    in
-    let py_is : c.place_of-py.result ≡ place_in (f s).smallest c.args.y.exponent =
-    rw (smallest-back s, exponent-back s c.args.y c.requires.3) at c.place_of-py.ensures
-    in
-    (c.requires.0, c.requires.1, c.requires.2, c.requires.3, px_is, rw (← py_is) (omega (arith, c.if-py-px.true)))
+subtract_placed-requires g c =
+    let f = g.F.Format.format in
+    let ok = g.met.F.Format.sound in
+    let px = place-is f ok c.args.x c.requires.0 _ (c.SMALLEST.ensures ∙ g.met.F.Format.smallest_is) _ c.place_of-px.ensures in
+    let py = place-is f ok c.args.y c.requires.1 _ (c.SMALLEST-2.ensures ∙ g.met.F.Format.smallest_is) _ c.place_of-py.ensures in
+    (c.requires.0, c.requires.1, px, rw (← py) (omega (arith, c.if-py-px.true)))
 
 pub subtract_placed-requires-2 : goal.subtract_placed-requires-2
-subtract_placed-requires-2 c =
-    let s = (goal.at.subtract_placed-requires-2 c).Start in
-    let px_is : c.place_of-px.result ≡ place_in (f s).smallest c.args.x.exponent =
-    rw (smallest-back s, exponent-back s c.args.x c.requires.2) at c.place_of-px.ensures
-    in
-    let py_is : c.place_of-py.result ≡ place_in (f s).smallest c.args.y.exponent =
-    rw (smallest-back s, exponent-back s c.args.y c.requires.3) at c.place_of-py.ensures
-    in
+subtract_placed-requires-2 g c =
+    let f = g.F.Format.format in
+    let ok = g.met.F.Format.sound in
+    let px = place-is f ok c.args.x c.requires.0 _ (c.SMALLEST.ensures ∙ g.met.F.Format.smallest_is) _ c.place_of-px.ensures in
+    let py = place-is f ok c.args.y c.requires.1 _ (c.SMALLEST-2.ensures ∙ g.met.F.Format.smallest_is) _ c.place_of-py.ensures in
     rw (c.opposite.ensures, c.opposite-2.ensures) (
-      c.requires.0,
-      c.requires.1,
-      opposite_stands (f s) c.requires.0 c.args.y c.requires.3,
-      opposite_stands (f s) c.requires.0 c.args.x c.requires.2,
-      py_is,
-      rw (← px_is) (omega (arith, c.if-py-px.false)),
+      opposite_stands f ok c.args.y c.requires.1,
+      opposite_stands f ok c.args.x c.requires.0,
+      py,
+      rw (← px) (omega (arith, c.if-py-px.false)),
     )
 
 pub returns : goal.returns
-returns c =
-    let s = (goal.at.returns c).Start in
+returns g c =
+    let f = g.F.Format.format in
     rw (c.opposite.ensures, c.opposite-2.ensures) at c.subtract_placed-2.ensures
-    ∙ ap (operand_of (f s).smallest) (opposite_difference (f s) c.requires.0 c.args.x c.args.y)
+    ∙ ap (operand_of f.smallest) (opposite_difference f g.met.F.Format.sound c.args.x c.args.y)

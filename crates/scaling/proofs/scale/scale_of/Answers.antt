@@ -1,5 +1,5 @@
 -- `scale_of` meets its contract: what is refused, what stays, and a value scaled and packed.
-use mathlib.Core.Path.{◌≡◌, refl, ◌∙◌, subst}
+use mathlib.Core.Path.{◌≡◌, refl, subst}
 use mathlib.Core.Bool.{Bool}
 use mathlib.Core.Logic.{◌⊎◌, inl, inr}
 use lib.IntN.{ℤ}
@@ -7,24 +7,21 @@ use mir.Syntax.{w32}
 use mir.ValLaws.{to_z-of_z}
 use Rattle.definitions.specs.Numbers.{first}
 use Rattle.definitions.specs.Format.{Format, pattern_of}
-use Rattle.definitions.specs.Scale.{scale_value, scale_class, scale_of}
+use Rattle.definitions.specs.Scale.{scale_class, scale_of}
+use Rattle.definitions.specs.declared.Refusal.TheVariants.{Unsupported, Nan}
 use Rattle.definitions.specs.declared.Rounding.TheVariants.{Exact}
 use Rattle.definitions.specs.Answers.{scale_meaning}
 use Rattle.operands.specs.Operand.{class_in, value_in}
 use Rattle.operands.specs.declared.Operand.{Operand}
 use Rattle.operands.specs.declared.Operand.TheVariants.{Infinite, Zero, Finite}
-use Rattle.shapes.specs.Shape.{format_of}
+use Rattle.operands.specs.declared.Unpacked.{Unpacked}
+use Rattle.shapes.specs.Shape.{Sound}
 use Rattle.packing.specs.Stands.{Stands, StandsValue}
-use Rattle.powers.specs.Scaled.{scaled_of}
 use Rattle.packing.proofs.Standing.{stands_unpacked}
 use Rattle.packing.proofs.Places.{Placed, placed}
 use Rattle.powers.proofs.Scaled.{scaled_stands, scaled_report_lem}
 use Rattle.scaling.proofs.Refusals.{scale_refused}
 use Rattle.scaling.proofs.scale.scale_of.Goals as goal
-use Rattle.scaling.proofs.scale.scale_of.Goals.{Start}
-
-abbrev f : (s : Start) → Format
-f s = format_of s.args.shape
 
 -- an infinity and a zero stay as they are
 stays : (f : Format) (k : ℤ) (o : Operand) → ((n : Bool) × (o ≡ Infinite n)) ⊎ ((n : Bool) × (o ≡ Zero n))
@@ -33,55 +30,45 @@ unfolding scale_of scale_class class_in first
 stays f k o (inl h) = rw h.1
 stays f k o (inr h) = rw h.1
 
-pub scale_value-scaled-requires : goal.scale_value-scaled-requires
-scale_value-scaled-requires c =
-    let s = (goal.at.scale_value-scaled-requires c).Start in
-    let stands : StandsValue (f s) (Finite c.in-Finite.value) =
-    stands_unpacked (f s) s.requires.0 c.in-Finite.value (subst (Stands (f s)) c.in-Finite.is s.requires.1)
-    in
-    (c.requires.0, stands)
+-- an operand that is a value
+module _ (f : Format) (ok : Sound f) (x : Operand) (stands : Stands f x) (u : Unpacked) (is : x ≡ Finite u) where
+  value-stands : StandsValue f (Finite u)
+  value-stands = stands_unpacked f ok u (subst (Stands f) is stands)
 
-pub pack-requires-in-Finite : goal.pack-requires-in-Finite
-pack-requires-in-Finite c =
-    let s = (goal.at.pack-requires-in-Finite c).Start in
-    let scaled : (c.scale_value-scaled.result ≡ scaled_of (f s).smallest (scale_value (f s) (value_in (f s).smallest c.in-Finite.value) s.args.power)) =
-    rw (to_z-of_z w32 c.args.power c.ranges.power) at c.scale_value-scaled.ensures
-    in
-    let stands : StandsValue (f s) (Finite c.in-Finite.value) =
-    stands_unpacked (f s) s.requires.0 c.in-Finite.value (subst (Stands (f s)) c.in-Finite.is s.requires.1)
-    in
-    let value : (Placed (f s) (value_in (f s).smallest c.in-Finite.value) c.in-Finite.value) =
-    placed (f s) c.requires.0 c.in-Finite.value stands
-    in
-    (c.requires.0, scaled_stands (f s) c.requires.0 _ _ value c.args.power c.scale_value-scaled.result scaled)
+  value : Placed f (value_in f.smallest u) u
+  value = placed f ok u value-stands
+
+pub scale_value-scaled-requires : goal.scale_value-scaled-requires
+scale_value-scaled-requires g c = value-stands g.F.Format.format g.met.F.Format.sound c.operand.result c.operand.ensures.stands c.in-Finite.value c.in-Finite.is
+
+pub new-requires : goal.new-requires
+new-requires g c =
+    let f = g.F.Format.format in
+    let ok = g.met.F.Format.sound in
+    let u = c.in-Finite.value in
+    let scaled = rw (to_z-of_z w32 c.args.power c.ranges.power) at c.scale_value-scaled.ensures in
+    scaled_stands f ok (value_in f.smallest u) u (value f ok c.operand.result c.operand.ensures.stands u c.in-Finite.is) c.args.power c.scale_value-scaled.result scaled
 
 pub returns-in-Unsupported : goal.returns-in-Unsupported
 unfolding class_in first
-returns-in-Unsupported c =
-    let s = (goal.at.returns-in-Unsupported c).Start in c.refused.ensures ∙ scale_refused (f s) c.args.power _ 2 refl (rw c.in-Unsupported.is)
+returns-in-Unsupported g c =
+    scale_refused g.F.Format.format _ c.refused.result Unsupported c.refused.ensures.why c.refused.ensures.value refl c.args.power (rw (← c.operand.ensures.is, c.in-Unsupported.is))
 
 pub returns-in-Nan : goal.returns-in-Nan
 unfolding class_in first
-returns-in-Nan c =
-    let s = (goal.at.returns-in-Nan c).Start in c.refused-in-Nan.ensures ∙ scale_refused (f s) c.args.power _ 3 refl (rw c.in-Nan.is)
+returns-in-Nan g c =
+    scale_refused g.F.Format.format _ c.refused-in-Nan.result Nan c.refused-in-Nan.ensures.why c.refused-in-Nan.ensures.value refl c.args.power (rw (← c.operand.ensures.is, c.in-Nan.is))
 
 pub returns-in-Infinite : goal.returns-in-Infinite
 unfolding scale_meaning
-returns-in-Infinite c =
-    let s = (goal.at.returns-in-Infinite c).Start in rw c.pack.ensures (stays (f s) c.args.power c.args.x c.in-Infinite.is)
+returns-in-Infinite g c = rw (c.pack.ensures, ← c.operand.ensures.is) (stays g.F.Format.format c.args.power c.operand.result c.in-Infinite.is)
 
 pub returns-in-Finite : goal.returns-in-Finite
 unfolding scale_meaning class_in
-returns-in-Finite c =
-    let s = (goal.at.returns-in-Finite c).Start in
-    let scaled : (c.scale_value-scaled.result ≡ scaled_of (f s).smallest (scale_value (f s) (value_in (f s).smallest c.in-Finite.value) s.args.power)) =
-    rw (to_z-of_z w32 c.args.power c.ranges.power) at c.scale_value-scaled.ensures
-    in
-    let stands : StandsValue (f s) (Finite c.in-Finite.value) =
-    stands_unpacked (f s) s.requires.0 c.in-Finite.value (subst (Stands (f s)) c.in-Finite.is s.requires.1)
-    in
-    let value : (Placed (f s) (value_in (f s).smallest c.in-Finite.value) c.in-Finite.value) =
-    placed (f s) c.requires.0 c.in-Finite.value stands
-    in
-    rw (c.pack-in-Finite.ensures, c.in-Finite.is)
-    (scaled_report_lem (f s) c.requires.0 _ _ value c.args.power c.scale_value-scaled.result scaled)
+returns-in-Finite g c =
+    let f = g.F.Format.format in
+    let ok = g.met.F.Format.sound in
+    let u = c.in-Finite.value in
+    let scaled = rw (to_z-of_z w32 c.args.power c.ranges.power) at c.scale_value-scaled.ensures in
+    rw (c.pack-in-Finite.ensures, c.new.ensures, ← c.operand.ensures.is, c.in-Finite.is)
+    (scaled_report_lem f ok (value_in f.smallest u) u (value f ok c.operand.result c.operand.ensures.stands u c.in-Finite.is) c.args.power c.scale_value-scaled.result scaled)
