@@ -1,4 +1,5 @@
 -- One place of a list: which dividends an accepted divisor refuses, and what a call of its own leaves there. Assumes nothing.
+use Rattle.std.specs.Prelude.{Result, Ok, Err}
 use mathlib.Core.Path.{◌≡◌, refl, sym, ap, ◌∙◌}
 use mathlib.Core.Bool.{true, false, not, ◌||◌}
 use Prim.Native.Nat.{ℕ, ◌^◌, ◌<◌}
@@ -14,10 +15,10 @@ use Rattle.definitions.specs.Fold.{dividing_list, bad, result_at, byte_at}
 use Rattle.definitions.specs.declared.Kind.{Kind}
 use Rattle.definitions.specs.declared.Pattern.{Pattern}
 use Rattle.definitions.specs.declared.Refusal.{Refusal}
-use Rattle.definitions.specs.declared.Refusal.TheVariants as why
-use Rattle.definitions.specs.declared.RemainderAnswer.{RemainderAnswer}
-use Rattle.definitions.specs.declared.RemainderAnswer.TheVariants.{Finished, Refused}
+use Rattle.definitions.specs.declared.Refused.{Refused}
+use Rattle.definitions.specs.declared.Residue.{Residue}
 use Rattle.definitions.proofs.Refusals.{supported}
+use Rattle.laws.proofs.Refusals.{refusal_refuses}
 use Rattle.laws.proofs.Regular.{regular64}
 use Rattle.laws.proofs.Small.{remainder_small}
 use Rattle.checks.proofs.Judged.{AcceptedDivisor, accepted_divisor}
@@ -36,21 +37,11 @@ accepts (nan n s) y ux uy d = rw uy
 accepts (infinite n) y ux uy d = rw (uy, d.not_nan)
 accepts (finite v) y ux uy d = rw (uy, d.not_nan, d.not_zero)
 
--- no refusal's number is an answer's
-refusal : (w : Refusal) → accepted (refusal_number w) ≡ false
-refusal why.BadLength = refl
-refusal why.BadSize = refl
-refusal why.Unsupported = refl
-refusal why.Nan = refl
-refusal why.Infinite = refl
-refusal why.ZeroDivisor = refl
-refusal why.ZeroSplit = refl
-
 -- a pattern of one word is its low word
 low_word : (p : Pattern) (n : ℕ) → joined p ≡ n → n < 2 ^ 64 → p.low ≡ n
 low_word p n e h = omega arith
 
-module _ (κ : Kind) (y x : ℕ) (d : first (dividing_list (class_of binary64 y)) ≡ 0) (a : RemainderAnswer) (told : remainder_meaning a ≡ remainder binary64 κ x y) where
+module _ (κ : Kind) (y x : ℕ) (d : first (dividing_list (class_of binary64 y)) ≡ 0) (a : Result (Residue ℕ) Refused) (told : remainder_meaning a ≡ remainder binary64 κ x y) where
   accepts_good : accepted (remainder binary64 κ x y).number ≡ not (bad x)
   unfolding remainder remainder_of
   accepts_good = accepts (class_of binary64 x) (class_of binary64 y) (supported binary64 refl x) (supported binary64 refl y) (accepted_divisor (class_of binary64 y) d)
@@ -59,7 +50,7 @@ module _ (κ : Kind) (y x : ℕ) (d : first (dividing_list (class_of binary64 y)
   unfolding result_at
   value_low v e = low_word v _ e (remainder_small binary64 regular64 κ x y)
 
-  module _ (v : Pattern) (q b : ℕ) (e : a ≡ Finished v q) (is : b ≡ shown q) where
+  module _ (v : Pattern) (q b : ℕ) (e : a ≡ Ok (record { value = v; quotient = q })) (is : b ≡ shown q) where
     answered : ◌≡◌ {A = Remainder} (record { number = 0; value = joined v; quotient = q }) (remainder binary64 κ x y)
     unfolding remainder_meaning
     answered = ap remainder_meaning (sym e) ∙ told
@@ -74,13 +65,13 @@ module _ (κ : Kind) (y x : ℕ) (d : first (dividing_list (class_of binary64 y)
     pub finished : record { value = v.low; byte = b } ≡ place_at κ y x
     finished = placed κ y x v.low b (value_low v (ap (λ (r : Remainder). r.value) answered)) byte_is
 
-  module _ (w : Refusal) (v : Pattern) (e : a ≡ Refused w v) where
+  module _ (w : Refusal) (v : Pattern) (e : a ≡ Err (record { why = w; value = v })) where
     marked : ◌≡◌ {A = Remainder} (record { number = refusal_number w; value = joined v; quotient = 0 }) (remainder binary64 κ x y)
     unfolding remainder_meaning
     marked = ap remainder_meaning (sym e) ∙ told
 
     is_bad : bad x ≡ true
-    is_bad = not-false (bad x) (sym accepts_good ∙ sym (ap (λ (r : Remainder). accepted r.number) marked) ∙ refusal w)
+    is_bad = not-false (bad x) (sym accepts_good ∙ sym (ap (λ (r : Remainder). accepted r.number) marked) ∙ refusal_refuses w)
 
     mark_is : 255 ≡ byte_at κ y x
     unfolding byte_at

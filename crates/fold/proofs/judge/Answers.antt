@@ -1,5 +1,5 @@
 -- `judge` meets its contract: a normal divisor is accepted.
-use mathlib.Core.Path.{◌≡◌, ◌∙◌}
+use mathlib.Core.Path.{◌≡◌}
 use Prim.Native.Nat.{ℕ, ◌<◌}
 use Rattle.digits.proofs.Tests.{not_zero}
 use Rattle.definitions.specs.Format.{binary64, class_of}
@@ -10,16 +10,13 @@ use Rattle.quick.proofs.Normals.{normal_value, count_pos, normal_class}
 use Rattle.quick.proofs.Fields.{normal}
 use Rattle.fold.proofs.judge.Goals as goal
 
-normal-accepted : (y : ℕ) → 0 < field_of y → field_of y < 2047 → 0 ≡ first (dividing_list (class_of binary64 y))
+normal-accepted : (y : ℕ) → 0 < field_of y → field_of y < 2047 → first (dividing_list (class_of binary64 y)) ≡ 0
 unfolding first
 normal-accepted y some low =
     let n = normal y some low in
     rw (normal_class binary64 y n, not_zero (normal_value binary64 y).count (count_pos binary64 y n))
 
-pub returns-then-field-lt2047 : goal.returns-then-field-lt2047
-returns-then-field-lt2047 c =
+pub invariant_of-result : goal.invariant_of-result
+invariant_of-result c =
     let f = c.field_of-field in
-    normal-accepted c.args.y (rw f.ensures at c.if-field-gt0.true) (rw f.ensures at c.if-field-lt2047.true)
-
-pub returns : goal.returns
-returns c = c.verdict_number.ensures ∙ c.judge_divisor.ensures binary64.smallest _ c.of_pattern-divisor.ensures
+    record { divides = normal-accepted c.args.y (rw f.ensures at c.if-field-gt0.true) (rw f.ensures at c.if-field-lt2047.true) }
