@@ -6,14 +6,14 @@ ghost use Rattle.std.specs.Prelude.{◌≡◌};
 ghost use Rattle.std.specs.Float.{binary64};
 ghost use Rattle.std.specs.Float.Ieee.{of_bits, to_bits};
 
-// The float of any pattern. The compiler divides the two constants, not the host.
+// The float of any pattern. That of a NaN is a constant of the compiler, not a division by the host.
 pub fn float_of(pattern: u64) -> f64
     ensures { result ≡ of_bits binary64 pattern }
 {
     if pattern % 0x8000_0000_0000_0000 <= 0x7FF0_0000_0000_0000 {
         f64::from_bits(pattern)
     } else {
-        0.0 / 0.0
+        f64::NAN
     }
 }
 
@@ -21,9 +21,9 @@ pub fn float_of(pattern: u64) -> f64
 pub fn pattern_of(x: f64) -> u64
     ensures { result ≡ to_bits binary64 x }
 {
-    if x != x {
+    if x.is_nan() {
         0x7FF8_0000_0000_0000
     } else {
-        f64::to_bits(x)
+        x.to_bits()
     }
 }

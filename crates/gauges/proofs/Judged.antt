@@ -13,6 +13,7 @@ use Rattle.definitions.specs.Stem as definition
 use Rattle.definitions.specs.Stem.{turn, roller, gauge_of, is_positive, good, good_fields}
 use Rattle.digits.proofs.Tests.{not_zero, and_true, and_false}
 use Rattle.operands.specs.Operand.{operand_of}
+use Rattle.operands.specs.declared.Unpacked.{Unpacked}
 use Rattle.operands.specs.declared.Operand.{Operand}
 use Rattle.operands.specs.declared.Operand.TheVariants.{Unsupported, Nan, Infinite, Zero, Finite}
 use Rattle.operands.proofs.Lead.{by_count}
@@ -52,6 +53,17 @@ positive_told (finite v) =
 module _ (b : ℕ) (o : Operand) (e : o ≡ operand_of binary64.smallest (class_of binary64 b)) where
   pub positive_is : (x : Operand) → o ≡ x → positive_operand x ≡ is_positive (class_of binary64 b)
   positive_is x is = rw (← is, e, positive_told (class_of binary64 b))
+
+  -- only a finite operand can be
+  pub not_positive : ((u : Unpacked) → o ≡ Finite u → ⊥) → false ≡ is_positive (class_of binary64 b)
+  not_positive other = go o refl
+    where
+      go : (x : Operand) → o ≡ x → false ≡ is_positive (class_of binary64 b)
+      go Unsupported is = positive_is Unsupported is
+      go (Nan n s) is = positive_is (Nan n s) is
+      go (Infinite n) is = positive_is (Infinite n) is
+      go (Zero n) is = positive_is (Zero n) is
+      go (Finite u) is = absurd (other u is)
 
   pub bad_is : nan_operand o || infinite_operand o ≡ bad b
   bad_is = rw (e, nan_told binary64.smallest (class_of binary64 b), infinite_told binary64.smallest (class_of binary64 b))

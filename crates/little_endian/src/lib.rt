@@ -2,51 +2,70 @@
 // the slice has.
 #![tactic(auto)]
 
-ghost use Rattle.std.specs.Prelude.{◌≡◌, ◌+◌, ◌≤◌, length};
+ghost use Rattle.std.specs.Prelude.{◌≡◌, ℕ, ◌+◌, ◌≤◌, ◌++◌, length, take, drop};
 ghost use Rattle.definitions.specs.Bytes.{loaded};
 ghost use Rattle.little_endian.specs.Stored.{stored};
 
-pub fn store2(bytes: &mut [u8], at: usize, value: u16)
-    requires { at + 2 ≤ length bytes.old }
-    ensures { bytes.new ≡ stored 2 at value bytes.old }
-{
-    bytes[at] = (value % 256) as u8;
-    bytes[at + 1] = (value / 256) as u8;
+pub trait Number: Copy {
+    // How many bytes it has, and what it is.
+    ghost size: { ℕ };
+
+    ghost value: { Self → ℕ };
+
+    fn store(self, bytes: &mut [u8], at: usize)
+        requires { at + size ≤ length bytes.old }
+        ensures { bytes.new ≡ stored size at (value self) bytes.old };
+
+    fn load(bytes: &[u8], at: usize) -> Self
+        requires { at + size ≤ length bytes.now }
+        ensures { value result ≡ loaded size at bytes.now };
 }
 
-pub fn store4(bytes: &mut [u8], at: usize, value: u32)
-    requires { at + 4 ≤ length bytes.old }
-    ensures { bytes.new ≡ stored 4 at value bytes.old }
-{
-    store2(bytes, at, (value % 65536) as u16);
-    store2(bytes, at + 2, (value / 65536) as u16);
+impl Number for u16 {
+    ghost size = { 2 };
+
+    ghost value = { λ n. n };
+
+    fn store(self, bytes: &mut [u8], at: usize) {
+        bytes[at..at + 2].copy_from_slice(&self.to_le_bytes());
+    }
+
+    fn load(bytes: &[u8], at: usize) -> u16 {
+        u16::from_le_bytes(get(bytes, at))
+    }
 }
 
-pub fn store8(bytes: &mut [u8], at: usize, value: u64)
-    requires { at + 8 ≤ length bytes.old }
-    ensures { bytes.new ≡ stored 8 at value bytes.old }
-{
-    store4(bytes, at, (value % 4294967296) as u32);
-    store4(bytes, at + 4, (value / 4294967296) as u32);
+impl Number for u32 {
+    ghost size = { 4 };
+
+    ghost value = { λ n. n };
+
+    fn store(self, bytes: &mut [u8], at: usize) {
+        bytes[at..at + 4].copy_from_slice(&self.to_le_bytes());
+    }
+
+    fn load(bytes: &[u8], at: usize) -> u32 {
+        u32::from_le_bytes(get(bytes, at))
+    }
 }
 
-pub fn load2(bytes: &[u8], at: usize) -> u16
-    requires { at + 2 ≤ length bytes.now }
-    ensures { result ≡ loaded 2 at bytes.now }
-{
-    (bytes[at] as u16) + 256 * (bytes[at + 1] as u16)
+impl Number for u64 {
+    ghost size = { 8 };
+
+    ghost value = { λ n. n };
+
+    fn store(self, bytes: &mut [u8], at: usize) {
+        bytes[at..at + 8].copy_from_slice(&self.to_le_bytes());
+    }
+
+    fn load(bytes: &[u8], at: usize) -> u64 {
+        u64::from_le_bytes(get(bytes, at))
+    }
 }
 
-pub fn load4(bytes: &[u8], at: usize) -> u32
-    requires { at + 4 ≤ length bytes.now }
-    ensures { result ≡ loaded 4 at bytes.now }
+fn get<const N: usize>(bytes: &[u8], at: usize) -> [u8; N]
+    requires { at + N ≤ length bytes.now }
+    ensures { result ≡ take N (drop at bytes.now) }
 {
-    (load2(bytes, at) as u32) + 65536 * (load2(bytes, at + 2) as u32)
-}
-
-pub fn load8(bytes: &[u8], at: usize) -> u64
-    requires { at + 8 ≤ length bytes.now }
-    ensures { result ≡ loaded 8 at bytes.now }
-{
-    (load4(bytes, at) as u64) + 4294967296 * (load4(bytes, at + 4) as u64)
+    <[u8; N]>::try_from(&bytes[at..at + N]).unwrap()
 }

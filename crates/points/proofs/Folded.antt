@@ -1,4 +1,5 @@
 -- The fold of a reading, from the remainder that the library told; what it gives passes a float. Assumes nothing.
+use Rattle.std.specs.Prelude.{Result, Ok, Err}
 use mathlib.Core.Path.{◌≡◌, refl, sym, ap, ◌∙◌}
 use mathlib.Core.Bool.{Bool, true, false, not, cond, ◌||◌}
 use Prim.Native.Nat.{ℕ, ◌^◌, ◌<◌}
@@ -19,8 +20,8 @@ use Rattle.definitions.specs.Stem.{Gauge, period_of, is_positive, good, shifted,
 use Rattle.definitions.specs.declared.Kind.TheVariants.{Truncated}
 use Rattle.definitions.specs.declared.Pattern.{Pattern}
 use Rattle.definitions.specs.declared.Refusal.{Refusal}
-use Rattle.definitions.specs.declared.RemainderAnswer.{RemainderAnswer}
-use Rattle.definitions.specs.declared.RemainderAnswer.TheVariants.{Finished, Refused}
+use Rattle.definitions.specs.declared.Refused.{Refused}
+use Rattle.definitions.specs.declared.Residue.{Residue}
 use Rattle.laws.proofs.Agrees.{agrees, agrees_bits}
 use Rattle.laws.proofs.Regular.{regular64}
 use Rattle.laws.proofs.Small.{remainder_small}
@@ -62,7 +63,7 @@ only_bad (infinite n) b p s = rw ((positive_tests b p).0, (positive_tests b p).1
 only_bad (finite v) b p s = rw ((positive_tests b p).0, (positive_tests b p).1, (positive_tests b p).2)
 
 -- the remainder of x by a period above zero, from what the library told
-module _ (p x : ℕ) (above : is_positive (class_of binary64 p) ≡ true) (a : RemainderAnswer)
+module _ (p x : ℕ) (above : is_positive (class_of binary64 p) ≡ true) (a : Result (Residue ℕ) Refused)
     (told : remainder_meaning a ≡ remainder binary64 Truncated x p) where
   abbrev left : ℕ
   left = cond (bad x) (house_nan binary64) (remainder binary64 Truncated x p).value
@@ -71,7 +72,7 @@ module _ (p x : ℕ) (above : is_positive (class_of binary64 p) ≡ true) (a : R
   number_tells =
       ap (λ (n : ℕ). eqb n 0) (number_of x p) ∙ only_bad (class_of binary64 x) (class_of binary64 p) above (supported binary64 refl x)
 
-  pub finished : (v : Pattern) (q : ℕ) → a ≡ Finished v q → v.low ≡ left
+  pub finished : (v : Pattern) (q : ℕ) → a ≡ Ok (record { value = v; quotient = q }) → v.low ≡ left
   unfolding remainder_meaning
   finished v q e =
       let is : remainder binary64 Truncated x p ≡ record { number = 0; value = joined v; quotient = q } = sym told ∙ ap remainder_meaning e in
@@ -80,7 +81,7 @@ module _ (p x : ℕ) (above : is_positive (class_of binary64 p) ≡ true) (a : R
       let z : not (bad x) ≡ true = sym number_tells ∙ ap (λ (r : Remainder). eqb r.number 0) is in
       rw (not-true (bad x) z, is) (omega arith)
 
-  pub refused : (w : Refusal) (v : Pattern) (n : ℕ) → a ≡ Refused w v → n ≡ house_nan binary64 → n ≡ left
+  pub refused : (w : Refusal) (v : Pattern) (n : ℕ) → a ≡ Err (record { why = w; value = v }) → n ≡ house_nan binary64 → n ≡ left
   unfolding remainder_meaning
   refused w v n e h =
       let is = ap (λ (r : Remainder). r.number) (sym told ∙ ap remainder_meaning e) in

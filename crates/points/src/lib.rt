@@ -11,32 +11,24 @@ ghost use Rattle.definitions.specs.Stem.{period_of, is_positive, good, fold_read
 ghost use Rattle.gauges.specs.Held.{gauge_bits};
 ghost use Rattle.points.specs.Held.{point_bits, folded_bits};
 
-use definitions::{Kind, RemainderAnswer};
+use definitions::Kind;
 use difference::patterns::difference64;
 use floats::{float_of, pattern_of};
-use formats::binary::Binary64;
-use gauges::{BAD_GAUGE, Gauge, is_good};
-use remainder::patterns::remainder64;
+use formats::Binary64;
+use gauges::{Gauge, StemRefusal};
+use remainder::patterns::Remainder;
 
-#[derive(Clone, Copy)]
+#[derive(Clone, Copy, Debug, PartialEq)]
 pub struct Point {
     pub reading: f64,
     pub radius: f64,
-}
-
-// A point that was folded, or that stays as it was under a gauge that is refused.
-#[derive(Clone, Copy)]
-pub struct FoldedPoint {
-    pub number: u8,
-    pub point: Point,
 }
 
 fn period_of(gauge: Gauge) -> u64
     ensures { result ≡ period_of (gauge_bits gauge) }
 {
     match gauge {
-        Gauge::Turn { period } => pattern_of(period),
-        Gauge::Roller { period, origin: _ } => pattern_of(period),
+        Gauge::Turn { period } | Gauge::Roller { period, .. } => pattern_of(period),
     }
 }
 
@@ -45,8 +37,8 @@ fn shifted(gauge: Gauge, reading: u64) -> u64
     ensures { result ≡ stem.shifted (gauge_bits gauge) reading }
 {
     match gauge {
-        Gauge::Turn { period: _ } => reading,
-        Gauge::Roller { period: _, origin } => difference64(reading, pattern_of(origin)),
+        Gauge::Turn { .. } => reading,
+        Gauge::Roller { origin, .. } => difference64(reading, pattern_of(origin)),
     }
 }
 
@@ -55,10 +47,10 @@ fn remainder_by(period: u64, x: u64) -> u64
     requires { is_positive (class_of binary64 period) ≡ true }
     ensures { result ≡ cond (bad x) (house_nan binary64) (remainder binary64 Truncated x period).value }
 {
-    let answer = remainder64(x, period, Kind::Truncated).answer;
-    match answer {
-        RemainderAnswer::Finished { value, quotient: _ } => value.low,
-        RemainderAnswer::Refused { .. } => Binary64::HOUSE_NAN,
+    let told = Binary64(x).remainder(Binary64(period), Kind::Truncated);
+    match told.answer {
+        Ok(residue) => residue.value.low,
+        Err(_) => Binary64::HOUSE_NAN,
     }
 }
 
@@ -70,23 +62,15 @@ fn fold_reading(gauge: Gauge, reading: u64) -> u64
 }
 
 // Of a float that is a NaN its bits are left free: as a pattern, which C gets, the folded reading is the house NaN.
-pub fn fold_point(gauge: Gauge, point: Point) -> FoldedPoint
-    ensures { folded_bits result ≡ fold_point (gauge_bits gauge) (point_bits point) }
+pub fn fold_point(gauge: Gauge, point: Point) -> Result<Point, StemRefusal>
+    ensures { folded_bits point result ≡ fold_point (gauge_bits gauge) (point_bits point) }
 {
-    if !is_good(gauge) {
-        return FoldedPoint {
-            number: BAD_GAUGE,
-            point,
-        };
+    if !gauge.is_good() {
+        return Err(StemRefusal::BadGauge);
     }
     let reading = fold_reading(gauge, pattern_of(point.reading));
-    let radius = point.radius;
-    let folded = Point {
+    Ok(Point {
         reading: float_of(reading),
-        radius,
-    };
-    FoldedPoint {
-        number: 0,
-        point: folded,
-    }
+        radius: point.radius,
+    })
 }

@@ -7,6 +7,7 @@ use native.Mathlib.Nat.{zero-add}
 use native.Mathlib.Omega.{arith}
 use borrow.Author.Tests.{lt-ltb, le-ltb, leb-false, eq-eqb, ne_eqb}
 use lib.Dec.{ltb, leb}
+use Rattle.std.specs.Prelude.{Option, Some, None, Result, Ok, Err}
 use lib.ListN.{length, get_or, take, drop, length-drop}
 use Rattle.digits.proofs.Tests.{clash}
 use Rattle.definitions.specs.Numbers.{first}
@@ -19,12 +20,11 @@ use Rattle.laws.proofs.StemWriter.{ArePatterns, ReadsAs, accepted, write_number,
 use Rattle.gauges.specs.declared.Gauge.{Gauge}
 use Rattle.gauges.specs.Held.{gauge_held, gauge_bits}
 use Rattle.gauges.proofs.Passes.{gauge_passes}
-use Rattle.stems.specs.declared.StemAnswer.TheVariants.{Opened, Refused}
+use Rattle.gauges.specs.declared.StemRefusal.{StemRefusal}
+use Rattle.gauges.specs.Refused.{number_of, told}
 use Rattle.stems.specs.declared.PointPatterns.{PointPatterns}
-use Rattle.stems.specs.declared.PlacedPatterns.TheVariants.{At, Past}
 use Rattle.stems.specs.Opened.{answer_of, patterns_placed}
-use Rattle.stems.proofs.Opened.{told_opened, told_refused}
-use Rattle.stem_writer.specs.declared.WriteAnswer.{WriteAnswer}
+use Rattle.stems.proofs.Opened.{refusal_some, told_opened, told_refused}
 use Rattle.stem_writer.specs.Written.{write_meaning}
 use Rattle.round_trips.specs.Trips.{opens_as, listed, taken_out, again}
 
@@ -36,51 +36,57 @@ module _ (part readings radii : List ℕ) (same : length readings ≡ length rad
   abbrev pair : PointPatterns
   pair = record { reading = get_or readings i 0; radius = get_or radii i 0 }
 
-  abbrev found : PointPatterns
-  found = let p = point_at part i in record { reading = p.reading; radius = p.radius }
+  abbrev held : definition.Point → PointPatterns
+  held p = record { reading = p.reading; radius = p.radius }
 
   taken_listed : patterns_placed part i ≡ listed readings radii i
   taken_listed =
       let many : count ≡ length readings = sym (length_from 0 count part) ∙ ap length e ∙ length_pairs readings radii same in
       rw many (go (leb (length readings) i) refl)
     where
-      go : (t : Bool) → leb (length readings) i ≡ t → cond t Past (At found) ≡ cond t Past (At pair)
+      go : (t : Bool) → leb (length readings) i ≡ t → ◌≡◌ {A = Option PointPatterns} (cond t None (Some (held (point_at part i)))) (cond t None (Some pair))
       go true l = refl
       go false l =
           let at : point_at part i ≡ record { reading = get_or readings i 0; radius = get_or radii i 0 } =
           rw (zero-add i) at (place_back 0 count part readings radii e i (leb-false (length readings) i l) same) in
-          ap (λ (p : definition.Point). At (record { reading = p.reading; radius = p.radius })) at
+          ap (λ (p : definition.Point). Some (held p)) at
 
 -- ---- what is written reads back
 
--- `room₁` and `answer` are what a call of `write_fields` leaves
-module _ (kind period origin : ℕ) (readings radii room room₁ : List ℕ) (answer : WriteAnswer)
-    (wrote : write_meaning answer room₁ ≡ write_fields kind period origin readings radii room) where
+-- `room₁` is what a call of `write_fields` leaves
+module _ (kind period origin : ℕ) (readings radii room room₁ : List ℕ) where
   abbrev number : ℕ
   number = (write_fields kind period origin readings radii room).number
 
-  abbrev file : List ℕ
-  file = take answer.written room₁
+  -- with a refusal
+  module _ (e : StemRefusal) (wrote : write_meaning (Err e) room₁ ≡ write_fields kind period origin readings radii room) where
+    is : number_of e ≡ number
+    is = ap (λ (w : Written). w.number) wrote
 
-  told : answer.number ≡ number
-  told = ap (λ (w : Written). w.number) wrote
+    pub refused_open : ◌≡◌ {A = Result Gauge ℕ} (Err (number_of e)) (opens_as (gauge_of kind period origin) number)
+    refused_open = rw (← is, ne_eqb (number_of e) 0 (refusal_some e))
 
-  pub refused_open : (answer.number ≡ 0 → ⊥) → Refused answer.number ≡ opens_as (gauge_of kind period origin) number
-  refused_open some = rw (← told, ne_eqb answer.number 0 some)
+    pub refused_take : (i : ℕ) → ◌≡◌ {A = Option PointPatterns} None (taken_out number readings radii i)
+    refused_take i = rw (← is, ne_eqb (number_of e) 0 (refusal_some e))
 
-  pub refused_take : (i : ℕ) → (answer.number ≡ 0 → ⊥) → Past ≡ taken_out number readings radii i
-  refused_take i some = rw (← told, ne_eqb answer.number 0 some)
+  -- with a file of n bytes
+  module _ (n : ℕ) (wrote : write_meaning (Ok n) room₁ ≡ write_fields kind period origin readings radii room)
+      (p : period < 2 ^ 64) (o : origin < 2 ^ 64) (xs : ArePatterns readings) (rs : ArePatterns radii) where
+    abbrev file : List ℕ
+    file = take n room₁
 
-  module _ (p : period < 2 ^ 64) (o : origin < 2 ^ 64) (xs : ArePatterns readings) (rs : ArePatterns radii) (none : answer.number ≡ 0) where
+    none : 0 ≡ number
+    none = ap (λ (w : Written). w.number) wrote
+
     judged : first (writing kind period origin (length readings) (length radii) (length room)) ≡ 0
-    judged = sym (told ∙ write_number kind period origin readings radii room) ∙ none
+    judged = sym (none ∙ write_number kind period origin readings radii room)
 
     reads : ReadsAs file (gauge_of kind period origin) (points_of readings radii)
     reads =
         rw (ap (λ (w : Written). w.written) wrote, ap (λ (w : Written). w.room) wrote)
         (call_reads_back kind period origin readings radii room p o xs rs judged)
 
-    pub written_fits : answer.written ≤ length room₁
+    pub written_fits : n ≤ length room₁
     written_fits =
         let w = ap (λ (w : Written). w.written) wrote ∙ write_length kind period origin readings radii room judged in
         let r = ap (λ (w : Written). length w.room) wrote ∙ write_room kind period origin readings radii room in
@@ -88,22 +94,22 @@ module _ (kind period origin : ℕ) (readings radii room room₁ : List ℕ) (an
 
     -- `open_stem` answers the gauge that was handed over
     pub written_opens : answer_of (stem file) ≡ opens_as (gauge_of kind period origin) number
-    written_opens = ap answer_of reads.1 ∙ rw (← told, eq-eqb answer.number 0 none)
+    written_opens = ap answer_of reads.1 ∙ rw (eq-eqb number 0 (sym none))
 
     -- and of the part that `points_of` hands back `patterns_at` gives the points
     pub written_points : (i : ℕ) → patterns_placed (stem_points (stem file)) i ≡ taken_out number readings radii i
     written_points i =
         let same = (accepted kind period origin (length readings) (length radii) (length room) judged).equal in
         taken_listed (stem_points (stem file)) readings radii same (rw (ap stem_points reads.1) reads.2) i
-        ∙ rw (← told, eq-eqb answer.number 0 none)
+        ∙ rw (eq-eqb number 0 (sym none))
 
 -- ---- what is read is written again as it was
 
-module _ (file readings radii room room₁ : List ℕ) (gauge : Gauge) (answer : WriteAnswer)
+module _ (file readings radii room room₁ : List ℕ) (gauge : Gauge) (answer : Result ℕ StemRefusal)
     (are : AreBytes file) (same : length readings ≡ length radii)
-    (opens : answer_of (stem file) ≡ Opened gauge) (taken : points_in (stem_points (stem file)) ≡ points_of readings radii)
+    (opens : answer_of (stem file) ≡ Ok gauge) (taken : points_in (stem_points (stem file)) ≡ points_of readings radii)
     (wrote : write_meaning answer room₁ ≡ write_stem (gauge_bits gauge) readings radii room) where
-  reads_as : (s : Stem) → stem file ≡ s → answer_of s ≡ Opened gauge → ReadsAs file (gauge_bits gauge) (points_of readings radii)
+  reads_as : (s : Stem) → stem file ≡ s → answer_of s ≡ Ok gauge → ReadsAs file (gauge_bits gauge) (points_of readings radii)
   reads_as (opened h points) is e =
       let r = opened_file file are h points is in
       let held : gauge_held h ≡ gauge = cc in
@@ -117,7 +123,7 @@ module _ (file readings radii room room₁ : List ℕ) (gauge : Gauge) (answer :
 
 -- ---- the number of a file that is opened and written again
 
-module _ (file : List ℕ) (gauge : Gauge) (opens : answer_of (stem file) ≡ Opened gauge) where
+module _ (file : List ℕ) (gauge : Gauge) (opens : answer_of (stem file) ≡ Ok gauge) where
   abbrev part : List ℕ
   part = stem_points (stem file)
 
@@ -144,16 +150,16 @@ module _ (file : List ℕ) (gauge : Gauge) (opens : answer_of (stem file) ≡ Op
   again_short x r room e f short = sym (again_whole x r room e f ∙ rw (lt-ltb room (length file) short))
 
   -- the call that writes it again
-  pub written_back : (readings radii room room₁ : List ℕ) (answer : WriteAnswer) (x r : ℕ) → AreBytes file → length readings ≡ length radii
+  pub written_back : (readings radii room room₁ : List ℕ) (answer : Result ℕ StemRefusal) (x r : ℕ) → AreBytes file → length readings ≡ length radii
       → x ≡ length part / point_length → r ≡ length part / point_length → length file ≤ length room
       → points_in part ≡ points_of readings radii → write_meaning answer room₁ ≡ write_stem (gauge_bits gauge) readings radii room
-      → (answer.number ≡ 0) × (0 ≡ again file x r (length room)) × (room₁ ≡ file ++ drop (length file) room)
+      → (told answer ≡ 0) × (0 ≡ again file x r (length room)) × (room₁ ≡ file ++ drop (length file) room)
   written_back readings radii room room₁ answer x r are same e f fits taken wrote =
       let w = opened_written file readings radii room room₁ gauge answer are same opens taken wrote fits in
       (ap (λ (t : Written). t.number) w, sym (again_whole x r (length room) e f ∙ rw (le-ltb (length room) (length file) fits)), ap (λ (t : Written). t.room) w)
 
 -- and of one that is refused
-pub again_refused : (file : List ℕ) (n : ℕ) → answer_of (stem file) ≡ Refused n → (x r room : ℕ) → (n ≡ again file x r room) × (n ≡ 0 → ⊥)
+pub again_refused : (file : List ℕ) (n : ℕ) → answer_of (stem file) ≡ Err n → (x r room : ℕ) → (n ≡ again file x r room) × (n ≡ 0 → ⊥)
 again_refused file n e x r room =
     let t = told_refused file n e in
     let is : stem_number (stem file) ≡ n = stem_number_lem file ∙ t.0 in

@@ -1,23 +1,22 @@
 -- What the round trips give, in the code's own values: the whole of their contracts.
-use Rattle.std.specs.Prelude.{ℕ, cond, ◌&&◌, List, eqb, ltb, leb, length, get_or}
-use Rattle.definitions.specs.Stem.{Gauge, file_count, stem, stem_number}
+use Rattle.std.specs.Prelude.{ℕ, cond, ◌&&◌, List, Option, Some, None, Result, Ok, Err, eqb, ltb, leb, length, get_or}
+use Rattle.definitions.specs.Stem as definition
+use Rattle.definitions.specs.Stem.{file_count, stem, stem_number}
+use Rattle.gauges.specs.declared.Gauge.{Gauge}
 use Rattle.gauges.specs.Held.{gauge_held}
-use Rattle.stems.specs.declared.StemAnswer.{StemAnswer}
-use Rattle.stems.specs.declared.StemAnswer.TheVariants.{Opened, Refused}
-use Rattle.stems.specs.declared.PlacedPatterns.{PlacedPatterns}
-use Rattle.stems.specs.declared.PlacedPatterns.TheVariants.{At, Past}
+use Rattle.stems.specs.declared.PointPatterns.{PointPatterns}
 
 -- the gauge that was handed over, or the number of its refusal
-abbrev pub opens_as : Gauge → ℕ → StemAnswer
-opens_as g n = cond (eqb n 0) (Opened (gauge_held g)) (Refused n)
+abbrev pub opens_as : definition.Gauge → ℕ → Result Gauge ℕ
+opens_as g n = cond (eqb n 0) (Ok (gauge_held g)) (Err n)
 
 -- what two lists hold at a place
-abbrev pub listed : List ℕ → List ℕ → ℕ → PlacedPatterns
-listed readings radii i = cond (leb (length readings) i) Past (At (record { reading = get_or readings i 0; radius = get_or radii i 0 }))
+abbrev pub listed : List ℕ → List ℕ → ℕ → Option PointPatterns
+listed readings radii i = cond (leb (length readings) i) None (Some (record { reading = get_or readings i 0; radius = get_or radii i 0 }))
 
 -- and nothing on a refusal
-abbrev pub taken_out : ℕ → List ℕ → List ℕ → ℕ → PlacedPatterns
-taken_out n readings radii i = cond (eqb n 0) (listed readings radii i) Past
+abbrev pub taken_out : ℕ → List ℕ → List ℕ → ℕ → Option PointPatterns
+taken_out n readings radii i = cond (eqb n 0) (listed readings radii i) None
 
 -- a refused file's number; 9 for lists that do not have a place for each point, 16 for room that is shorter than the file
 abbrev pub again : List ℕ → ℕ → ℕ → ℕ → ℕ

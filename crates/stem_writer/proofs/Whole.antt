@@ -7,16 +7,12 @@ use native.Mathlib.Nat.{zero-add}
 use native.Mathlib.Omega.{arith}
 use borrow.Author.Tests.{ne_eqb}
 use lib.Dec.{eqb}
-use lib.Ieee.{Float, binary64, to_bits}
 use lib.ListN.{length, drop}
 use lib.Seq.{sets, sets-eq}
 use Rattle.definitions.specs.Numbers.{first}
 use Rattle.definitions.specs.Stem.{gauge_of, header_length, point_length}
-use Rattle.definitions.specs.StemWriter.{points_of, header, point_bytes, stem_file, writing, Written, write_fields, write_stem}
+use Rattle.definitions.specs.StemWriter.{points_of, header, point_bytes, stem_file, writing, Written, write_fields}
 use Rattle.stem_writer.proofs.Stores.{sets_more}
-use Rattle.gauges.specs.Held.{gauge_bits}
-use Rattle.gauges.specs.declared.Gauge.{Gauge}
-use Rattle.gauges.specs.declared.Gauge.TheVariants.{Turn, Roller}
 use Rattle.laws.proofs.Stem.{held}
 use Rattle.laws.proofs.StemWriter.{header_held, accepted, length_pairs, length_file}
 
@@ -61,14 +57,3 @@ module _ (kind period origin : ℕ) (readings radii room : List ℕ) where
           → ◌≡◌ {A = Written} (record { number = n; written = end; room = room₂ })
           (record { number = m; written = cond (eqb m 0) (length file) 0; room = cond (eqb m 0) (file ++ drop (length file) room) room })
       go m file numbered long later = rw (numbered, none, later, long)
-
--- a gauge's call is that of its fields
-pub turn_call : (gauge : Gauge) (p : Float) (readings radii room : List ℕ) → gauge ≡ Turn p
-    → write_stem (gauge_bits gauge) readings radii room ≡ write_fields 0 (to_bits binary64 p) 0 readings radii room
-unfolding write_stem
-turn_call gauge p readings radii room e = rw e
-
-pub roller_call : (gauge : Gauge) (p o : Float) (readings radii room : List ℕ) → gauge ≡ Roller p o
-    → write_stem (gauge_bits gauge) readings radii room ≡ write_fields 1 (to_bits binary64 p) (to_bits binary64 o) readings radii room
-unfolding write_stem
-roller_call gauge p o readings radii room e = rw e

@@ -3,10 +3,10 @@ use mathlib.Core.Path.{refl}
 use Rattle.points.proofs.Folded.{finished, refused}
 use Rattle.points.proofs.remainder_by.Goals as goal
 
-pub returns-in-Finished : goal.returns-in-Finished
-returns-in-Finished c =
-    finished c.args.period c.args.x c.requires c.remainder64-answer.result.answer c.remainder64-answer.ensures.answer _ _ c.in-Finished.is
+pub returns-in-Ok : goal.returns-in-Ok
+returns-in-Ok c =
+    finished c.args.period c.args.x c.requires c.remainder-told.result.answer c.remainder-told.ensures.answer _ _ c.in-Ok.is
 
-pub returns-in-Refused : goal.returns-in-Refused
-returns-in-Refused c =
-    refused c.args.period c.args.x c.requires c.remainder64-answer.result.answer c.remainder64-answer.ensures.answer _ _ _ c.in-Refused.is refl
+pub returns-in-Err : goal.returns-in-Err
+returns-in-Err c =
+    refused c.args.period c.args.x c.requires c.remainder-told.result.answer c.remainder-told.ensures.answer _ _ _ c.in-Err.is refl

@@ -1,63 +1,40 @@
 -- `write_fields` meets its contract: what is accepted fits, and is written.
-use mathlib.Core.Path.{sym, ◌∙◌}
+use mathlib.Core.Path.{refl, sym}
 use native.Mathlib.Omega.{arith}
 use lib.ListN.{length}
-use Rattle.laws.proofs.StemWriter.{Accepted, accepted}
+use Rattle.std.proofs.lemmas.Result.{err_from_is_err_and}
+use Rattle.laws.proofs.StemWriter.{accepted}
+use Rattle.stems.proofs.Opened.{refusal_some}
 use Rattle.stem_writer.proofs.Whole.{refused_call, written_call}
 use Rattle.stem_writer.proofs.write_fields.Goals as goal
 
-pub returns-then-number-ne0 : goal.returns-then-number-ne0
-returns-then-number-ne0 c =
+pub returns-in_err-written : goal.returns-in_err-written
+returns-in_err-written c =
     let a = c.args in
-    refused_call a.kind a.period a.origin a.readings.now a.radii.now a.room.now _ c.judge_writing-number.ensures c.if-number-ne0.true
-
-pub overflow_cast-kind : goal.overflow_cast-kind
-overflow_cast-kind c =
-    let says : let a = c.args in Accepted a.kind a.period a.origin (length a.readings.now) (length a.radii.now) (length a.room.now) =
-    let a = c.args in
-    accepted a.kind a.period a.origin (length a.readings.now) (length a.radii.now) (length a.room.now)
-    (sym c.judge_writing-number.ensures ∙ c.if-number-ne0.false)
-    in
-    record { fits = omega (arith, says.known) }
+    let p = err_from_is_err_and c.from_residual.result c.from_residual.ensures.1 in
+    rw (p.1, p.2)
+    (refused_call a.fields.kind a.fields.period a.fields.origin a.readings.now a.radii.now a.room.now _ c.in_err-written.ensures.number (refusal_some c.in_err-written.field-0.0))
 
 pub overflow_cast-count : goal.overflow_cast-count
 overflow_cast-count c =
-    let says : let a = c.args in Accepted a.kind a.period a.origin (length a.readings.now) (length a.radii.now) (length a.room.now) =
     let a = c.args in
-    accepted a.kind a.period a.origin (length a.readings.now) (length a.radii.now) (length a.room.now)
-    (sym c.judge_writing-number.ensures ∙ c.if-number-ne0.false)
-    in
+    let says = accepted a.fields.kind a.fields.period a.fields.origin (length a.readings.now) (length a.radii.now) (length a.room.now) (sym c.in_ok-written.ensures.number) in
     record { fits = omega (arith, says.most) }
 
 pub write_header-requires : goal.write_header-requires
 write_header-requires c =
-    let says : let a = c.args in Accepted a.kind a.period a.origin (length a.readings.now) (length a.radii.now) (length a.room.now) =
     let a = c.args in
-    accepted a.kind a.period a.origin (length a.readings.now) (length a.radii.now) (length a.room.now)
-    (sym c.judge_writing-number.ensures ∙ c.if-number-ne0.false)
-    in
-    omega (arith, says.fits)
+    let says = accepted a.fields.kind a.fields.period a.fields.origin (length a.readings.now) (length a.radii.now) (length a.room.now) (sym c.in_ok-written.ensures.number) in
+    (omega (arith, says.fits), omega (arith, says.known))
 
 pub write_points-requires : goal.write_points-requires
 write_points-requires c =
-    let says : let a = c.args in Accepted a.kind a.period a.origin (length a.readings.now) (length a.radii.now) (length a.room.now) =
     let a = c.args in
-    accepted a.kind a.period a.origin (length a.readings.now) (length a.radii.now) (length a.room.now)
-    (sym c.judge_writing-number.ensures ∙ c.if-number-ne0.false)
-    in
-    let a = says in (a.equal, omega (arith, a.fits))
-
-pub overflow_add-written : goal.overflow_add-written
-overflow_add-written c =
-    let says : let a = c.args in Accepted a.kind a.period a.origin (length a.readings.now) (length a.radii.now) (length a.room.now) =
-    let a = c.args in
-    accepted a.kind a.period a.origin (length a.readings.now) (length a.radii.now) (length a.room.now)
-    (sym c.judge_writing-number.ensures ∙ c.if-number-ne0.false)
-    in
-    record { fits = omega (arith, says.most) }
+    let says = accepted a.fields.kind a.fields.period a.fields.origin (length a.readings.now) (length a.radii.now) (length a.room.now) (sym c.in_ok-written.ensures.number) in
+    (says.equal, omega (arith, says.fits))
 
 pub returns : goal.returns
 returns c =
     let a = c.args in
-    written_call a.kind a.period a.origin a.readings.now a.radii.now a.room.now _ _ _ c.judge_writing-number.ensures c.if-number-ne0.false
-    c.write_header.ensures c.write_points.ensures
+    rw c.in_ok-written.ensures.whole
+    (written_call a.fields.kind a.fields.period a.fields.origin a.readings.now a.radii.now a.room.now _ _ _ c.in_ok-written.ensures.number refl c.write_header.ensures c.write_points.ensures)

@@ -12,6 +12,6 @@ pub returns : goal.returns
 returns c =
     let a = c.args in
     let room = a.room.now in
-    c.store8-2.ensures
-    ∙ ap (stored 8 (a.at + 8) a.radius) (c.store8.ensures ∙ stored_sets 8 a.at a.reading room (omega (arith, c.requires)))
+    c.store-2.ensures
+    ∙ ap (stored 8 (a.at + 8) a.radius) (c.store.ensures ∙ stored_sets 8 a.at a.reading room (omega (arith, c.requires)))
     ∙ stored_more room (bytes_of 8 a.reading) a.at (a.at + 8) 8 a.radius refl (omega (arith, c.requires))
