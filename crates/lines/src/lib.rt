@@ -5,30 +5,32 @@ mod output;
 
 ghost use Rattle.std.specs.Prelude.{◌≡◌};
 ghost use Rattle.definitions.specs.Line.{line_for};
-ghost use Rattle.lines.specs.Output.{output_of};
+ghost use Rattle.lines.specs.Fields.{fields_of};
 
 use definitions::Kind;
-use hexadecimal::{Field, read_field};
+use formats::Binary64;
+use hexadecimal::read_field;
 pub use output::Output;
 use output::{bad_line, line_of_answer};
-use remainder::patterns::remainder64;
+use remainder::patterns::Remainder;
+
+// The two numbers that a well-formed line holds.
+fn read_fields(line: &[u8]) -> Option<(u64, u64)>
+    ensures { result ≡ fields_of line.now }
+{
+    if line.len() != 33 || line[16] != b' ' {
+        return None;
+    }
+    Some((read_field(&line[..16])?, read_field(&line[17..])?))
+}
 
 // A line of input, without its newline, answered.
 pub fn answer_line(line: &[u8]) -> Output
-    ensures { result ≡ output_of (line_for line.now) }
+    ensures { result.items ≡ line_for line.now }
 {
-    if line.len() != 33 {
-        return bad_line();
-    }
-    if line[16] != b' ' {
-        return bad_line();
-    }
-    let Field::Number(x) = read_field(&line[..16]) else {
+    let Some((x, y)) = read_fields(line) else {
         return bad_line();
     };
-    let Field::Number(y) = read_field(&line[17..]) else {
-        return bad_line();
-    };
-    let answer = remainder64(x, y, Kind::Truncated).answer;
-    line_of_answer(answer)
+    let told = Binary64(x).remainder(Binary64(y), Kind::Truncated);
+    line_of_answer(told.answer)
 }

@@ -3,108 +3,75 @@
 // input, and rust/compare/tests/lines.rs.
 #![tactic(auto)]
 
-ghost use Rattle.std.specs.Prelude.{◌≡◌, ◌≤◌, length, take};
+ghost use Rattle.std.specs.Prelude.{◌≡◌, [], OnOk};
 
-use arrayvec::ArrayString;
+use arrayvec::{ArrayString, ArrayVec};
 use std::fmt::Write as _;
-use std::io;
 use std::io::{Read, Write};
+use std::{fmt, io};
 use stream::{answer_last, answer_lines};
 
 // Room for a buffer of input: a line that has begun, and what one read brings.
-fn input_room() -> [u8; 65536]
-    ensures { 65536 ≡ length result }
-{
-    [0; 65536]
-}
+type Input = ArrayVec<u8, 65536>;
 
 // Room for the answers of a whole buffer of input: an empty line takes one byte there, and its answer nine.
-fn room() -> [u8; 589836]
-    ensures { 589836 ≡ length result }
+type Answers = ArrayVec<u8, 589836>;
+
+// A call that has failed, and why.
+#[derive(Debug, Drop)]
+enum Failure {
+    Reading(io::Error),
+    Writing(io::Error),
+}
+
+// What has failed, and the system's words, without the number that is shown after them.
+impl fmt::Display for Failure {
+    fn fmt<W: fmt::Write>(&self, f: &mut fmt::Formatter<W>) -> fmt::Result {
+        let (what, error) = match self {
+            Failure::Reading(error) => ("standard input", error),
+            Failure::Writing(error) => ("standard output", error),
+        };
+        let mut text = ArrayString::<256>::new();
+        write!(text, "{error}")?;
+        let end = text.find(" (os error ").unwrap_or(text.len());
+        write!(f, "{what}: {}", &text[..end])
+    }
+}
+
+// Writes the answers that wait, and leaves room for others.
+fn write_answers(rt: &HostRuntime, out: &mut Answers) -> Result<(), Failure>
+    ensures { OnOk result (out.new.items ≡ []) }
 {
-    [0; 589836]
+    rt.stdout().write_all(out).map_err(Failure::Writing)?;
+    out.clear();
+    Ok(())
 }
 
-// How many bytes of a line that has begun are kept at the buffer's front, and whether more may come.
-#[derive(Clone, Copy)]
-struct State {
-    kept: usize,
-    open: bool,
-}
-
-// Says on standard error what has failed and why: the system's words, without the number that is shown after them.
-fn fail(rt: &HostRuntime, what: &str, error: io::Error) -> io::Result<()> {
-    let mut text = ArrayString::<256>::new();
-    write!(text, "{error}")?;
-    let end = text.find(" (os error ").unwrap_or(text.len());
-    eprintln!(rt; "{what}: {}", &text[..end])
-}
-
-// A call failed: nothing more is read or answered.
-fn stop(rt: &HostRuntime, what: &str, error: io::Error) -> State
-    ensures { result.kept ≤ 34 }
-{
-    let _ = fail(rt, what, error);
-    State {
-        kept: 0,
-        open: false,
+// Answers all that is read, and at the end a last line that has no newline. A proved loop has to end, and nothing says that an input
+// does: it takes turns up to a number that no run uses up.
+fn answer_input(rt: &HostRuntime) -> Result<(), Failure> {
+    let mut input = Input::new();
+    let mut out = Answers::new();
+    let mut piece = [0; 65536];
+    for _ in 0..u64::MAX {
+        let room = input.remaining_capacity();
+        let got = rt
+            .stdin()
+            .read(&mut piece[..room])
+            .map_err(Failure::Reading)?;
+        if got == 0 {
+            break;
+        }
+        input.try_extend_from_slice(&piece[..got]).unwrap();
+        answer_lines(&mut input, &mut out);
+        write_answers(rt, &mut out)?;
     }
-}
-
-// Reads once, and writes the answers of all lines that have ended.
-fn turn(rt: &HostRuntime, buffer: &mut [u8], out: &mut [u8], kept: usize) -> State
-    requires { (length buffer.old ≡ 65536) × (length out.old ≡ 589836) × (kept ≤ 34) }
-    ensures { result.kept ≤ 34 }
-{
-    let got = match rt.stdin().read(&mut buffer[kept..]) {
-        Ok(got) => got,
-        Err(error) => return stop(rt, "standard input", error),
-    };
-    if got == 0 {
-        return State { kept, open: false };
-    }
-    let answers = answer_lines(buffer, kept + got, out);
-    let n = answers.written;
-    if let Err(error) = rt.stdout().write_all(&out[..n]) {
-        return stop(rt, "standard output", error);
-    }
-    State {
-        kept: answers.kept,
-        open: true,
-    }
-}
-
-// Reads to the end, and says how many bytes are kept of a last line that has no newline. A proved loop has to end, and nothing says that
-// an input does: the loop counts its turns down, from a number that no run uses up.
-fn answer_input(rt: &HostRuntime, buffer: &mut [u8], out: &mut [u8]) -> usize
-    requires { (length buffer.old ≡ 65536) × (length out.old ≡ 589836) }
-    ensures { (result ≤ length buffer.new) × (result ≡ length (take result buffer.new)) }
-{
-    let mut state = State {
-        kept: 0,
-        open: true,
-    };
-    let mut turns = u64::MAX;
-    while 0 < turns && state.open {
-        state = turn(rt, buffer, out, state.kept);
-        turns -= 1;
-    }
-    state.kept
-}
-
-// Writes the answer of a last line that has no newline.
-fn answer_end(rt: &HostRuntime, line: &[u8], out: &mut [u8])
-    requires { length out.old ≡ 589836 }
-{
-    let n = answer_last(line, out);
-    if let Err(error) = rt.stdout().write_all(&out[..n]) {
-        stop(rt, "standard output", error);
-    }
+    answer_last(&input, &mut out);
+    write_answers(rt, &mut out)
 }
 
 fn main(rt: HostRuntime) {
-    let mut buffer = input_room();
-    let mut out = room();
-    let kept = answer_input(&rt, &mut buffer, &mut out);
-    answer_end(&rt, &buffer[..kept], &mut out);
+    if let Err(failure) = answer_input(&rt) {
+        let _ = eprintln!(rt; "{failure}");
+    }
 }

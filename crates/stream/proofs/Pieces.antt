@@ -4,6 +4,7 @@ use mathlib.Core.Bool.{Bool, true, false, cond, not}
 use mathlib.Core.Logic.{◌⊎◌, inl, inr, ⊎_elim}
 use mathlib.Core.List.{List, [], ◌∷◌, ◌++◌, append-nil, append_assoc, flatten}
 use Prim.Native.Nat.{ℕ, ◌≤◌, ◌<◌, min}
+use native.Mathlib.Nat.{le_refl}
 use native.Mathlib.Omega.{arith}
 use lib.Dec.{T, leb, leb→le, nleb→lt, eqb}
 use lib.ListN.{length, take, drop, length-append, length-take, take-append-drop}
@@ -12,7 +13,7 @@ use Rattle.digits.proofs.Tests.{clash}
 use Rattle.definitions.specs.Line.{line_for, newline, answered, written_at, begun_at, written, begun, last_written, output_for}
 use Rattle.stream.specs.Stream.{kept_bytes, in_pieces, CutAnywhere}
 use Rattle.stream.proofs.Appended.{written_append, begun_append}
-use Rattle.lines.proofs.Parts.{take_min}
+use Rattle.std.proofs.lemmas.List.{take-take}
 use Rattle.lines.proofs.WellFormed.{bad_length}
 use Rattle.stream.proofs.Last.{last_some}
 
@@ -108,7 +109,7 @@ in_pieces_lem line (p ∷ ps) w =
     written_append [] line p ∙ ap (λ (l : List ℕ). l ++ written (begun [] line) p) w ∙ ap (λ (l : List ℕ). written l p) here in
     let left : begun [] (line ++ p) ≡ begun line p = begun_append [] line p ∙ ap (λ (l : List ℕ). begun l p) here in
     let k = take kept_bytes (begun line p) in
-    let e : take kept_bytes k ≡ take kept_bytes (begun line p) = take_min kept_bytes kept_bytes (begun line p) in
+    let e : take kept_bytes k ≡ take kept_bytes (begun line p) = take-take kept_bytes kept_bytes (begun line p) (le_refl kept_bytes) in
     let same = alike_all k (begun line p) rest e in
     let later = in_pieces_lem k ps (quiet_start kept_bytes (begun line p) (quiet line p w)) in
     ap (λ (l : List ℕ). l ++ in_pieces (take kept_bytes (begun [] (line ++ p))) ps) told

@@ -1,99 +1,71 @@
 // A whole input answered piece by piece: a read may cut a line anywhere. Only the program over this crate calls these functions, with
-// buffers of its own that are long enough; what a buffer holds past the part that is stated is free.
+// room of its own that is large enough.
 #![tactic(auto)]
 
-ghost use Rattle.std.specs.Prelude.{◌≡◌, ◌+◌, ◌-◌, ◌*◌, ◌≤◌, min, length, take, drop};
-ghost use Rattle.definitions.specs.Line.{last_written};
-ghost use Rattle.stream.specs.Stream.{kept_bytes, BeginsWith, Put, Passed, Turned};
+ghost use Rattle.std.specs.Prelude.{◌≡◌, ◌+◌, ◌*◌, ◌≤◌, [], ◌++◌, length, take, drop};
+ghost use Rattle.arrayvec.specs.ArrayVec.{array_vec_len};
+ghost use Rattle.definitions.specs.Line.{answered, written, begun, last_written};
+ghost use Rattle.stream.specs.Stream.{kept_bytes};
 
+use arrayvec::ArrayVec;
 use lines::answer_line;
 
-// A line of input answered at a place of `out`, with a newline, and the place after that.
-fn answer_at(out: &mut [u8], at: usize, line: &[u8]) -> usize
-    requires { at + 21 ≤ length out.old }
-    ensures { Put line.now out.old out.new at result }
+// A line of input answered, with a newline.
+fn answer<const CAP: usize>(line: &[u8], out: &mut ArrayVec<u8, CAP>)
+    requires { array_vec_len out.old + 21 ≤ CAP }
+    ensures { out.new.items ≡ out.old.items ++ answered line.now }
 {
-    let answer = answer_line(line);
-    let bytes = answer.bytes;
-    let len = answer.len;
-    let mut k: usize = 0;
-    while k < 20 {
-        out[at + k] = bytes[k];
-        k += 1;
-    }
-    out[at + len] = b'\n';
-    at + len + 1
+    out.try_extend_from_slice(&answer_line(line)).unwrap();
+    out.push(b'\n');
 }
 
-// Where the last line of an input begins, and how many bytes were put into `out`.
-#[derive(Clone, Copy)]
-pub struct Pass {
-    pub begin: usize,
-    pub written: usize,
-}
-
-// Every line that ends in an input, answered at the start of `out`.
-fn answer_ended(input: &[u8], out: &mut [u8]) -> Pass
-    requires { 9 * length input.now + 12 ≤ length out.old }
-    ensures { Passed input.now out.new result }
+// Every line that ends in an input answered, and where the line begins that has not ended.
+fn answer_ended<const CAP: usize>(input: &[u8], out: &mut ArrayVec<u8, CAP>) -> usize
+    requires { array_vec_len out.old + 9 * length input.now + 12 ≤ CAP }
+    ensures answers { out.new.items ≡ out.old.items ++ written [] input.now }
+    ensures rest { drop result input.now ≡ begun [] input.now }
+    ensures inside { result ≤ length input.now }
 {
-    let mut begin: usize = 0;
-    let mut at: usize = 0;
-    let mut i: usize = 0;
-    while i < input.len() {
-        if input[i] == b'\n' {
-            at = answer_at(out, at, &input[begin..i]);
+    let mut begin = 0;
+    for (i, c) in input.iter().enumerate() {
+        if *c == b'\n' {
+            answer(&input[begin..i], out);
             begin = i + 1;
         }
-        i += 1;
     }
-    Pass { begin, written: at }
+    begin
 }
 
-// The bytes from `begin` to `end` moved to the front, as many as are kept.
-fn keep(buffer: &mut [u8], begin: usize, end: usize) -> usize
-    requires { (begin ≤ end) × (end ≤ length buffer.old) }
-    ensures { (result ≡ min kept_bytes (end - begin)) × (take result buffer.new ≡ take result (drop begin buffer.old)) }
+// What comes from `begin` on, as much of it as is kept.
+fn keep<const CAP: usize>(input: &mut ArrayVec<u8, CAP>, begin: usize)
+    requires { begin ≤ array_vec_len input.old }
+    ensures { input.new.items ≡ take kept_bytes (drop begin input.old.items) }
 {
-    let mut most: usize = 34;
-    if end - begin < 34 {
-        most = end - begin;
-    }
-    let mut k: usize = 0;
-    while k < most {
-        buffer[k] = buffer[begin + k];
-        k += 1;
-    }
-    k
+    let kept = (input.len() - begin).min(34);
+    input.copy_within(begin..begin + kept, 0);
+    input.truncate(kept);
 }
 
-// How many bytes are to be written, and how many of a line that has begun are kept.
-#[derive(Clone, Copy)]
-pub struct Turn {
-    pub written: usize,
-    pub kept: usize,
-}
-
-// The first `filled` bytes of a buffer answered. What is kept goes to its front, for more input to come after it.
-pub fn answer_lines(buffer: &mut [u8], filled: usize, out: &mut [u8]) -> Turn
-    requires { (filled ≤ length buffer.old) × (9 * filled + 12 ≤ length out.old) }
-    ensures { Turned (take filled buffer.old) buffer.new out.new result }
+// Every line that ends in an input answered. What is kept of a line that has begun stays, for more input to come after it.
+pub fn answer_lines<const IN: usize, const OUT: usize>(
+    input: &mut ArrayVec<u8, IN>,
+    out: &mut ArrayVec<u8, OUT>,
+)
+    requires { array_vec_len out.old + 9 * array_vec_len input.old + 12 ≤ OUT }
+    ensures answers { out.new.items ≡ out.old.items ++ written [] input.old.items }
+    ensures rest { input.new.items ≡ take kept_bytes (begun [] input.old.items) }
+    ensures short { array_vec_len input.new ≤ kept_bytes }
 {
-    let pass = answer_ended(&buffer[..filled], out);
-    let kept = keep(buffer, pass.begin, filled);
-    Turn {
-        written: pass.written,
-        kept,
-    }
+    let begin = answer_ended(input, out);
+    keep(input, begin);
 }
 
 // The last line, which needs no newline, answered.
-pub fn answer_last(line: &[u8], out: &mut [u8]) -> usize
-    requires { 21 ≤ length out.old }
-    ensures { BeginsWith out.new (last_written line.now) result }
+pub fn answer_last<const CAP: usize>(line: &[u8], out: &mut ArrayVec<u8, CAP>)
+    requires { array_vec_len out.old + 21 ≤ CAP }
+    ensures { out.new.items ≡ out.old.items ++ last_written line.now }
 {
-    if line.len() == 0 {
-        return 0;
+    if !line.is_empty() {
+        answer(line, out);
     }
-    answer_at(out, 0, line)
 }

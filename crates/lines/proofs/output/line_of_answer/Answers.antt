@@ -1,22 +1,24 @@
 -- `line_of_answer` meets its contract, case by case.
+use Rattle.std.specs.Prelude.{Result}
 use mathlib.Core.Path.{◌≡◌, sym, subst}
-use Prim.Native.Nat.{◌<◌, ◌^◌}
+use Prim.Native.Nat.{ℕ, ◌<◌, ◌^◌}
 use native.Mathlib.Omega.{arith}
 use Rattle.definitions.specs.Answers.{remainder_meaning, joined}
 use Rattle.definitions.specs.Line.{answer_line}
-use Rattle.definitions.specs.declared.RemainderAnswer.{RemainderAnswer}
+use Rattle.definitions.specs.declared.Refused.{Refused}
+use Rattle.definitions.specs.declared.Residue.{Residue}
 use Rattle.lines.proofs.output.line_of_answer.Goals as goal
 
-pub returns-in-Finished : goal.returns-in-Finished
+pub returns-in-Ok : goal.returns-in-Ok
 unfolding remainder_meaning answer_line
-returns-in-Finished c =
-    let small = subst (λ (a : RemainderAnswer). (remainder_meaning a).value < 2 ^ 64) c.in-Finished.is c.requires.0 in
-    let low : c.in-Finished.value.low ≡ joined c.in-Finished.value = omega arith in
-    rw (c.in-Finished.is, ← low, ← c.shown_bits.ensures) c.digits_line.ensures
+returns-in-Ok c =
+    let small = subst (λ (a : Result (Residue ℕ) Refused). (remainder_meaning a).value < 2 ^ 64) c.in-Ok.is c.requires.0 in
+    let low : c.in-Ok.residue.value.low ≡ joined c.in-Ok.residue.value = omega arith in
+    rw (c.in-Ok.is, ← low, ← c.shown_bits.ensures) c.digits_line.ensures
 
-pub returns-in-Refused : goal.returns-in-Refused
+pub returns-in-Err : goal.returns-in-Err
 unfolding remainder_meaning answer_line
-returns-in-Refused c =
-    let small = subst (λ (a : RemainderAnswer). (remainder_meaning a).value < 2 ^ 64) c.in-Refused.is c.requires.0 in
-    let low : c.in-Refused.value.low ≡ joined c.in-Refused.value = omega arith in
-    rw (c.in-Refused.is, ← low, sym c.number_of.ensures) c.digits_line-in-Refused.ensures
+returns-in-Err c =
+    let small = subst (λ (a : Result (Residue ℕ) Refused). (remainder_meaning a).value < 2 ^ 64) c.in-Err.is c.requires.0 in
+    let low : c.in-Err.refused.value.low ≡ joined c.in-Err.refused.value = omega arith in
+    rw (c.in-Err.is, ← low, sym c.from.ensures) c.digits_line-in-Err.ensures
