@@ -8,47 +8,39 @@ ghost use Rattle.definitions.specs.Reports.{block_length};
 ghost use Rattle.definitions.specs.Block.{block_of, block_after};
 ghost use Rattle.definitions.specs.Answers.{joined, steps_meaning};
 
-use checks::number_of;
-use definitions::{Pattern, StepsAnswer};
-use little_endian::{store2, store4, store8};
+use definitions::{Progress, Reached, Refused};
+use little_endian::Number;
 use quotients::shown_bits;
 
 // The value's significand and word, the number, the quotient that is shown, the steps and the quotient.
-fn fill_block(block: &mut [u8], value: Pattern, number: u8, quotient: u32, steps: u32)
-    requires { (length block.old ≡ block_length) × (joined value < patterns x87) }
-    ensures { block.new ≡ block_of (record { number = number; value = joined value; quotient = quotient; steps = steps }) }
+fn fill_block(block: &mut [u8], number: u8, reached: Reached)
+    requires { (length block.old ≡ block_length) × (joined reached.value < patterns x87) }
+    ensures { block.new ≡ block_of (record { number = number; value = joined reached.value; quotient = reached.quotient; steps = reached.steps }) }
 {
-    store8(block, 0, value.low);
-    store2(block, 8, value.high as u16);
+    reached.value.low.store(block, 0);
+    (reached.value.high as u16).store(block, 8);
     block[10] = number;
-    block[11] = shown_bits(quotient);
-    store4(block, 12, steps);
-    store4(block, 16, quotient);
+    block[11] = shown_bits(reached.quotient);
+    reached.steps.store(block, 12);
+    reached.quotient.store(block, 16);
 }
 
 // An answer's number, and its block if it is no refusal.
-pub fn write(block: &mut [u8], answer: StepsAnswer, unfinished: u8) -> u8
+#[tactic(auto, using(laws::proofs::Refusals::refusal_refuses), unfolding(definitions::specs::Answers::steps_meaning, definitions::specs::Block::block_after))]
+pub fn write(block: &mut [u8], answer: Result<Progress<Reached>, Refused>, unfinished: u8) -> u8
     requires { (length block.old ≡ block_length) × ((steps_meaning unfinished answer).value < patterns x87) × (accepted unfinished ≡ true) }
     ensures number { result ≡ (steps_meaning unfinished answer).number }
     ensures block { block.new ≡ block_after block.old (steps_meaning unfinished answer) }
 {
     match answer {
-        StepsAnswer::Finished {
-            value,
-            quotient,
-            steps,
-        } => {
-            fill_block(block, value, 0, quotient, steps);
+        Ok(Progress::Finished(reached)) => {
+            fill_block(block, 0, reached);
             0
         }
-        StepsAnswer::Unfinished {
-            value,
-            quotient,
-            steps,
-        } => {
-            fill_block(block, value, unfinished, quotient, steps);
+        Ok(Progress::Unfinished(reached)) => {
+            fill_block(block, unfinished, reached);
             unfinished
         }
-        StepsAnswer::Refused { why, .. } => number_of(why),
+        Err(refused) => refused.why.into(),
     }
 }

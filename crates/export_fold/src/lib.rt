@@ -7,7 +7,6 @@ ghost use Rattle.definitions.specs.Block.{kind_of};
 ghost use Rattle.definitions.specs.Exports.{after};
 
 use fold::fold64;
-use interface::kind_of;
 
 #[unsafe(no_mangle)]
 pub extern "C" fn zk_fold64(
@@ -23,11 +22,11 @@ pub extern "C" fn zk_fold64(
     ensures quotients { quotients.new ≡ (fold_list (kind_of kind) y x.now results.old quotients.old).quotients }
     ensures marked { marked.new ≡ after result (fold_list (kind_of kind) y x.now results.old quotients.old).marked marked.old }
 {
-    let answer = fold64(x, results, quotients, y, kind_of(kind));
-    let number = answer.number;
-    if number != 0 {
-        return number;
+    match fold64(x, results, quotients, y, kind.into()) {
+        Ok(count) => {
+            *marked = count;
+            0
+        }
+        Err(why) => why.into(),
     }
-    *marked = answer.marked;
-    number
 }

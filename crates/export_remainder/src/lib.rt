@@ -7,10 +7,8 @@ ghost use Rattle.definitions.specs.Remainder.{remainder};
 ghost use Rattle.definitions.specs.Block.{kind_of};
 ghost use Rattle.definitions.specs.Exports.{after, significand_in, word_in};
 
-use checks::number_of;
-use definitions::RemainderAnswer;
-use interface::kind_of;
-use remainder::patterns::{remainder16, remainder32, remainder64, remainder80};
+use formats::{Binary16, Binary32, Binary64, X87};
+use remainder::patterns::Remainder;
 
 #[unsafe(no_mangle)]
 pub extern "C" fn zk_rem16(x: u16, y: u16, kind: u32, value: &mut u16, quotient: &mut u32) -> u8
@@ -18,17 +16,14 @@ pub extern "C" fn zk_rem16(x: u16, y: u16, kind: u32, value: &mut u16, quotient:
     ensures value { value.new ≡ after result (remainder binary16 (kind_of kind) x y).value value.old }
     ensures quotient { quotient.new ≡ after result (remainder binary16 (kind_of kind) x y).quotient quotient.old }
 {
-    let answer = remainder16(x, y, kind_of(kind)).answer;
-    match answer {
-        RemainderAnswer::Finished {
-            value: v,
-            quotient: q,
-        } => {
-            *value = v.low as u16;
-            *quotient = q;
+    let told = Binary16(x).remainder(Binary16(y), kind.into());
+    match told.answer {
+        Ok(residue) => {
+            *value = residue.value.low as u16;
+            *quotient = residue.quotient;
             0
         }
-        RemainderAnswer::Refused { why, .. } => number_of(why),
+        Err(refused) => refused.why.into(),
     }
 }
 
@@ -38,17 +33,14 @@ pub extern "C" fn zk_rem32(x: u32, y: u32, kind: u32, value: &mut u32, quotient:
     ensures value { value.new ≡ after result (remainder binary32 (kind_of kind) x y).value value.old }
     ensures quotient { quotient.new ≡ after result (remainder binary32 (kind_of kind) x y).quotient quotient.old }
 {
-    let answer = remainder32(x, y, kind_of(kind)).answer;
-    match answer {
-        RemainderAnswer::Finished {
-            value: v,
-            quotient: q,
-        } => {
-            *value = v.low as u32;
-            *quotient = q;
+    let told = Binary32(x).remainder(Binary32(y), kind.into());
+    match told.answer {
+        Ok(residue) => {
+            *value = residue.value.low as u32;
+            *quotient = residue.quotient;
             0
         }
-        RemainderAnswer::Refused { why, .. } => number_of(why),
+        Err(refused) => refused.why.into(),
     }
 }
 
@@ -58,17 +50,14 @@ pub extern "C" fn zk_rem64(x: u64, y: u64, kind: u32, value: &mut u64, quotient:
     ensures value { value.new ≡ after result (remainder binary64 (kind_of kind) x y).value value.old }
     ensures quotient { quotient.new ≡ after result (remainder binary64 (kind_of kind) x y).quotient quotient.old }
 {
-    let answer = remainder64(x, y, kind_of(kind)).answer;
-    match answer {
-        RemainderAnswer::Finished {
-            value: v,
-            quotient: q,
-        } => {
-            *value = v.low;
-            *quotient = q;
+    let told = Binary64(x).remainder(Binary64(y), kind.into());
+    match told.answer {
+        Ok(residue) => {
+            *value = residue.value.low;
+            *quotient = residue.quotient;
             0
         }
-        RemainderAnswer::Refused { why, .. } => number_of(why),
+        Err(refused) => refused.why.into(),
     }
 }
 
@@ -88,17 +77,22 @@ pub extern "C" fn zk_rem80(
     ensures valuew { valuew.new ≡ after result (word_in (remainder x87 (kind_of kind) (words xw x) (words yw y)).value) valuew.old }
     ensures quotient { quotient.new ≡ after result (remainder x87 (kind_of kind) (words xw x) (words yw y)).quotient quotient.old }
 {
-    let answer = remainder80(x, xw, y, yw, kind_of(kind)).answer;
-    match answer {
-        RemainderAnswer::Finished {
-            value: v,
-            quotient: q,
-        } => {
-            *value = v.low;
-            *valuew = v.high as u16;
-            *quotient = q;
+    let dividend = X87 {
+        significand: x,
+        word: xw,
+    };
+    let divisor = X87 {
+        significand: y,
+        word: yw,
+    };
+    let told = dividend.remainder(divisor, kind.into());
+    match told.answer {
+        Ok(residue) => {
+            *value = residue.value.low;
+            *valuew = residue.value.high as u16;
+            *quotient = residue.quotient;
             0
         }
-        RemainderAnswer::Refused { why, .. } => number_of(why),
+        Err(refused) => refused.why.into(),
     }
 }

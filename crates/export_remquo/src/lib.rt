@@ -7,10 +7,8 @@ ghost use Rattle.definitions.specs.Signed.{signed_remainder};
 ghost use Rattle.definitions.specs.Block.{kind_of};
 ghost use Rattle.definitions.specs.Exports.{after, significand_in, word_in};
 
-use checks::number_of;
-use definitions::SignedAnswer;
-use interface::kind_of;
-use remquo::patterns::{remquo16, remquo32, remquo64, remquo80};
+use formats::{Binary16, Binary32, Binary64, X87};
+use remquo::patterns::remquo;
 
 #[unsafe(no_mangle)]
 pub extern "C" fn zk_remquo16(x: u16, y: u16, kind: u32, value: &mut u16, quotient: &mut i32) -> u8
@@ -18,17 +16,14 @@ pub extern "C" fn zk_remquo16(x: u16, y: u16, kind: u32, value: &mut u16, quotie
     ensures value { value.new ≡ after result (signed_remainder binary16 (kind_of kind) x y).value value.old }
     ensures quotient { quotient.new ≡ after result (signed_remainder binary16 (kind_of kind) x y).quotient quotient.old }
 {
-    let answer = remquo16(x, y, kind_of(kind)).answer;
-    match answer {
-        SignedAnswer::Finished {
-            value: v,
-            quotient: q,
-        } => {
-            *value = v.low as u16;
-            *quotient = q;
+    let told = remquo(Binary16(x), Binary16(y), kind.into());
+    match told.answer {
+        Ok(residue) => {
+            *value = residue.value.low as u16;
+            *quotient = residue.quotient;
             0
         }
-        SignedAnswer::Refused { why, .. } => number_of(why),
+        Err(refused) => refused.why.into(),
     }
 }
 
@@ -38,17 +33,14 @@ pub extern "C" fn zk_remquo32(x: u32, y: u32, kind: u32, value: &mut u32, quotie
     ensures value { value.new ≡ after result (signed_remainder binary32 (kind_of kind) x y).value value.old }
     ensures quotient { quotient.new ≡ after result (signed_remainder binary32 (kind_of kind) x y).quotient quotient.old }
 {
-    let answer = remquo32(x, y, kind_of(kind)).answer;
-    match answer {
-        SignedAnswer::Finished {
-            value: v,
-            quotient: q,
-        } => {
-            *value = v.low as u32;
-            *quotient = q;
+    let told = remquo(Binary32(x), Binary32(y), kind.into());
+    match told.answer {
+        Ok(residue) => {
+            *value = residue.value.low as u32;
+            *quotient = residue.quotient;
             0
         }
-        SignedAnswer::Refused { why, .. } => number_of(why),
+        Err(refused) => refused.why.into(),
     }
 }
 
@@ -58,17 +50,14 @@ pub extern "C" fn zk_remquo64(x: u64, y: u64, kind: u32, value: &mut u64, quotie
     ensures value { value.new ≡ after result (signed_remainder binary64 (kind_of kind) x y).value value.old }
     ensures quotient { quotient.new ≡ after result (signed_remainder binary64 (kind_of kind) x y).quotient quotient.old }
 {
-    let answer = remquo64(x, y, kind_of(kind)).answer;
-    match answer {
-        SignedAnswer::Finished {
-            value: v,
-            quotient: q,
-        } => {
-            *value = v.low;
-            *quotient = q;
+    let told = remquo(Binary64(x), Binary64(y), kind.into());
+    match told.answer {
+        Ok(residue) => {
+            *value = residue.value.low;
+            *quotient = residue.quotient;
             0
         }
-        SignedAnswer::Refused { why, .. } => number_of(why),
+        Err(refused) => refused.why.into(),
     }
 }
 
@@ -88,17 +77,22 @@ pub extern "C" fn zk_remquo80(
     ensures valuew { valuew.new ≡ after result (word_in (signed_remainder x87 (kind_of kind) (words xw x) (words yw y)).value) valuew.old }
     ensures quotient { quotient.new ≡ after result (signed_remainder x87 (kind_of kind) (words xw x) (words yw y)).quotient quotient.old }
 {
-    let answer = remquo80(x, xw, y, yw, kind_of(kind)).answer;
-    match answer {
-        SignedAnswer::Finished {
-            value: v,
-            quotient: q,
-        } => {
-            *value = v.low;
-            *valuew = v.high as u16;
-            *quotient = q;
+    let dividend = X87 {
+        significand: x,
+        word: xw,
+    };
+    let divisor = X87 {
+        significand: y,
+        word: yw,
+    };
+    let told = remquo(dividend, divisor, kind.into());
+    match told.answer {
+        Ok(residue) => {
+            *value = residue.value.low;
+            *valuew = residue.value.high as u16;
+            *quotient = residue.quotient;
             0
         }
-        SignedAnswer::Refused { why, .. } => number_of(why),
+        Err(refused) => refused.why.into(),
     }
 }

@@ -1,4 +1,5 @@
--- What an exported splitting writes, from what the library told. Assumes nothing.
+-- What an exported splitting writes, from what the library told: in every format, out of one word of a pattern or of two. Assumes nothing.
+use Rattle.std.specs.Prelude.{Result, Ok, Err}
 use mathlib.Core.Path.{◌≡◌, refl, sym, ap, ◌∙◌}
 use Prim.Native.Nat.{ℕ, ◌^◌, ◌≤◌, ◌<◌}
 use native.Mathlib.Omega.{arith}
@@ -6,45 +7,33 @@ use lib.IntN.{ℤ}
 use Rattle.definitions.specs.Format.{Format, Regular, patterns}
 use Rattle.definitions.specs.Scale.{SplitReport, split_report}
 use Rattle.definitions.specs.Answers.{refusal_number, joined, split_meaning}
-use Rattle.definitions.specs.declared.Pattern.{Pattern}
-use Rattle.definitions.specs.declared.Refusal.{Refusal}
-use Rattle.definitions.specs.declared.SplitAnswer.{SplitAnswer}
-use Rattle.definitions.specs.declared.SplitAnswer.TheVariants as split
-use Rattle.definitions.specs.Exports.{after, significand_in, word_in}
+use Rattle.definitions.specs.declared.Refused.{Refused}
+use Rattle.definitions.specs.declared.Split.{Split}
+use Rattle.definitions.specs.Exports.{significand_in, word_in}
 use Rattle.laws.proofs.Small.{split_small}
-use Rattle.interface.proofs.Written.{kept, significand_of_lem, word_of}
+use Rattle.laws.proofs.Lent.{significand_of_lem, word_of}
 
 -- the report of x split, which the library told as a
-module _ (f : Format) (r : Regular f) (x : ℕ) (a : SplitAnswer) (told : split_meaning a ≡ split_report f x) where
+module _ (f : Format) (r : Regular f) (x : ℕ) (a : Result Split Refused) (told : split_meaning a ≡ split_report f x) where
   abbrev R : SplitReport
   R = split_report f x
 
-  module _ (s : Pattern) (e : ℤ) (is : a ≡ split.Parts s e) where
-    report : record { number = 0; significand = joined s; exponent = e } ≡ R
+  module _ (t : Split) (is : a ≡ Ok t) where
+    meant : R ≡ record { number = 0; significand = joined t.significand; exponent = t.exponent }
     unfolding split_meaning
-    report = ap split_meaning (sym is) ∙ told
+    meant = sym told ∙ ap split_meaning is
 
-    pub significand_small : joined s < patterns f
-    significand_small = rw (ap (λ (t : SplitReport). t.significand) report) (split_small f r x)
+    pub significand_small : joined t.significand < patterns f
+    significand_small = let s = split_small f r x in rw meant at s
 
     -- a significand of one word, and one of two; the exponent is stored as i
-    pub parted : (i : ℤ) → i ≡ e → patterns f ≤ 2 ^ 64 → (0 ≡ R.number) × ((s.low ≡ R.significand) × (i ≡ R.exponent))
-    parted i j one = rw (← report) (refl, (omega (arith, significand_small), j))
+    pub parted : (i : ℤ) → i ≡ t.exponent → patterns f ≤ 2 ^ 64 → (0 ≡ R.number) × ((t.significand.low ≡ R.significand) × (i ≡ R.exponent))
+    parted i j one = let s = significand_small in rw meant (refl, (omega arith, j))
 
-    pub parted80 : (i : ℤ) → i ≡ e → s.low < 2 ^ 64
-        → (0 ≡ R.number) × ((s.low ≡ significand_in R.significand) × ((s.high ≡ word_in R.significand) × (i ≡ R.exponent)))
-    parted80 i j h = rw (← report) (refl, (significand_of_lem s h, (word_of s h, j)))
+    pub parted80 : (i : ℤ) → i ≡ t.exponent → t.significand.low < 2 ^ 64
+        → (0 ≡ R.number) × ((t.significand.low ≡ significand_in R.significand) × ((t.significand.high ≡ word_in R.significand) × (i ≡ R.exponent)))
+    parted80 i j h = rw meant (refl, (significand_of_lem t.significand h, (word_of t.significand h, j)))
 
-  module _ (w : Refusal) (u : Pattern) (n : ℕ) (is : a ≡ split.Refused w u) (i : n ≡ refusal_number w) where
-    number_is : n ≡ R.number
-    unfolding split_meaning
-    number_is = i ∙ ap (λ (t : SplitReport). t.number) (ap split_meaning (sym is) ∙ told)
-
-    pub refused : (significand : ℕ) (exponent : ℤ)
-        → (n ≡ R.number) × ((significand ≡ after n R.significand significand) × (exponent ≡ after n R.exponent exponent))
-    refused significand exponent = (number_is, (kept w n R.significand significand i, kept w n R.exponent exponent i))
-
-    pub refused80 : (significand word : ℕ) (exponent : ℤ)
-        → (n ≡ R.number)
-        × ((significand ≡ after n (significand_in R.significand) significand) × ((word ≡ after n (word_in R.significand) word) × (exponent ≡ after n R.exponent exponent)))
-    refused80 significand word exponent = (number_is, (kept w n _ significand i, (kept w n _ word i, kept w n _ exponent i)))
+  pub number_is : (t : Refused) (n : ℕ) → a ≡ Err t → n ≡ refusal_number t.why → n ≡ R.number
+  unfolding split_meaning
+  number_is t n e is = is ∙ ap (λ (t : SplitReport). t.number) (ap split_meaning (sym e) ∙ told)

@@ -4,10 +4,8 @@ ghost use Rattle.definitions.specs.Format.{binary16, binary32, binary64, x87, wo
 ghost use Rattle.definitions.specs.Scale.{scale_report};
 ghost use Rattle.definitions.specs.Exports.{after, says_number, significand_in, word_in};
 
-use checks::number_of;
-use definitions::ScaleAnswer;
-use interface::says_number;
-use scaling::scale::{scale16, scale32, scale64, scale80};
+use formats::{Binary16, Binary32, Binary64, X87};
+use scaling::scale::scale;
 
 #[unsafe(no_mangle)]
 pub extern "C" fn zk_scale16(x: u16, power: i32, value: &mut u16, says: &mut u8) -> u8
@@ -15,14 +13,13 @@ pub extern "C" fn zk_scale16(x: u16, power: i32, value: &mut u16, says: &mut u8)
     ensures value { value.new ≡ after result (scale_report binary16 x power).value value.old }
     ensures says { says.new ≡ after result (says_number (scale_report binary16 x power).says) says.old }
 {
-    let answer = scale16(x, power).answer;
-    match answer {
-        ScaleAnswer::Scaled { value: v, says: s } => {
-            *value = v.low as u16;
-            *says = says_number(s);
+    match scale(Binary16(x), power).answer {
+        Ok(scaled) => {
+            *value = scaled.value.low as u16;
+            *says = scaled.says.into();
             0
         }
-        ScaleAnswer::Refused { why, .. } => number_of(why),
+        Err(refused) => refused.why.into(),
     }
 }
 
@@ -32,14 +29,13 @@ pub extern "C" fn zk_scale32(x: u32, power: i32, value: &mut u32, says: &mut u8)
     ensures value { value.new ≡ after result (scale_report binary32 x power).value value.old }
     ensures says { says.new ≡ after result (says_number (scale_report binary32 x power).says) says.old }
 {
-    let answer = scale32(x, power).answer;
-    match answer {
-        ScaleAnswer::Scaled { value: v, says: s } => {
-            *value = v.low as u32;
-            *says = says_number(s);
+    match scale(Binary32(x), power).answer {
+        Ok(scaled) => {
+            *value = scaled.value.low as u32;
+            *says = scaled.says.into();
             0
         }
-        ScaleAnswer::Refused { why, .. } => number_of(why),
+        Err(refused) => refused.why.into(),
     }
 }
 
@@ -49,14 +45,13 @@ pub extern "C" fn zk_scale64(x: u64, power: i32, value: &mut u64, says: &mut u8)
     ensures value { value.new ≡ after result (scale_report binary64 x power).value value.old }
     ensures says { says.new ≡ after result (says_number (scale_report binary64 x power).says) says.old }
 {
-    let answer = scale64(x, power).answer;
-    match answer {
-        ScaleAnswer::Scaled { value: v, says: s } => {
-            *value = v.low;
-            *says = says_number(s);
+    match scale(Binary64(x), power).answer {
+        Ok(scaled) => {
+            *value = scaled.value.low;
+            *says = scaled.says.into();
             0
         }
-        ScaleAnswer::Refused { why, .. } => number_of(why),
+        Err(refused) => refused.why.into(),
     }
 }
 
@@ -74,14 +69,17 @@ pub extern "C" fn zk_scale80(
     ensures valuew { valuew.new ≡ after result (word_in (scale_report x87 (words xw x) power).value) valuew.old }
     ensures says { says.new ≡ after result (says_number (scale_report x87 (words xw x) power).says) says.old }
 {
-    let answer = scale80(x, xw, power).answer;
-    match answer {
-        ScaleAnswer::Scaled { value: v, says: s } => {
-            *value = v.low;
-            *valuew = v.high as u16;
-            *says = says_number(s);
+    let pattern = X87 {
+        significand: x,
+        word: xw,
+    };
+    match scale(pattern, power).answer {
+        Ok(scaled) => {
+            *value = scaled.value.low;
+            *valuew = scaled.value.high as u16;
+            *says = scaled.says.into();
             0
         }
-        ScaleAnswer::Refused { why, .. } => number_of(why),
+        Err(refused) => refused.why.into(),
     }
 }

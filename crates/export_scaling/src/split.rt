@@ -4,9 +4,8 @@ ghost use Rattle.definitions.specs.Format.{binary16, binary32, binary64, x87, wo
 ghost use Rattle.definitions.specs.Scale.{split_report};
 ghost use Rattle.definitions.specs.Exports.{after, significand_in, word_in};
 
-use checks::number_of;
-use definitions::SplitAnswer;
-use scaling::split::{split16, split32, split64, split80};
+use formats::{Binary16, Binary32, Binary64, X87};
+use scaling::split::split;
 
 #[unsafe(no_mangle)]
 pub extern "C" fn zk_split16(x: u16, significand: &mut u16, exponent: &mut i32) -> u8
@@ -14,17 +13,13 @@ pub extern "C" fn zk_split16(x: u16, significand: &mut u16, exponent: &mut i32) 
     ensures significand { significand.new ≡ after result (split_report binary16 x).significand significand.old }
     ensures exponent { exponent.new ≡ after result (split_report binary16 x).exponent exponent.old }
 {
-    let answer = split16(x).answer;
-    match answer {
-        SplitAnswer::Parts {
-            significand: s,
-            exponent: e,
-        } => {
-            *significand = s.low as u16;
-            *exponent = e;
+    match split(Binary16(x)).answer {
+        Ok(parts) => {
+            *significand = parts.significand.low as u16;
+            *exponent = parts.exponent;
             0
         }
-        SplitAnswer::Refused { why, .. } => number_of(why),
+        Err(refused) => refused.why.into(),
     }
 }
 
@@ -34,17 +29,13 @@ pub extern "C" fn zk_split32(x: u32, significand: &mut u32, exponent: &mut i32) 
     ensures significand { significand.new ≡ after result (split_report binary32 x).significand significand.old }
     ensures exponent { exponent.new ≡ after result (split_report binary32 x).exponent exponent.old }
 {
-    let answer = split32(x).answer;
-    match answer {
-        SplitAnswer::Parts {
-            significand: s,
-            exponent: e,
-        } => {
-            *significand = s.low as u32;
-            *exponent = e;
+    match split(Binary32(x)).answer {
+        Ok(parts) => {
+            *significand = parts.significand.low as u32;
+            *exponent = parts.exponent;
             0
         }
-        SplitAnswer::Refused { why, .. } => number_of(why),
+        Err(refused) => refused.why.into(),
     }
 }
 
@@ -54,17 +45,13 @@ pub extern "C" fn zk_split64(x: u64, significand: &mut u64, exponent: &mut i32) 
     ensures significand { significand.new ≡ after result (split_report binary64 x).significand significand.old }
     ensures exponent { exponent.new ≡ after result (split_report binary64 x).exponent exponent.old }
 {
-    let answer = split64(x).answer;
-    match answer {
-        SplitAnswer::Parts {
-            significand: s,
-            exponent: e,
-        } => {
-            *significand = s.low;
-            *exponent = e;
+    match split(Binary64(x)).answer {
+        Ok(parts) => {
+            *significand = parts.significand.low;
+            *exponent = parts.exponent;
             0
         }
-        SplitAnswer::Refused { why, .. } => number_of(why),
+        Err(refused) => refused.why.into(),
     }
 }
 
@@ -81,17 +68,17 @@ pub extern "C" fn zk_split80(
     ensures significandw { significandw.new ≡ after result (word_in (split_report x87 (words xw x)).significand) significandw.old }
     ensures exponent { exponent.new ≡ after result (split_report x87 (words xw x)).exponent exponent.old }
 {
-    let answer = split80(x, xw).answer;
-    match answer {
-        SplitAnswer::Parts {
-            significand: s,
-            exponent: e,
-        } => {
-            *significand = s.low;
-            *significandw = s.high as u16;
-            *exponent = e;
+    let pattern = X87 {
+        significand: x,
+        word: xw,
+    };
+    match split(pattern).answer {
+        Ok(parts) => {
+            *significand = parts.significand.low;
+            *significandw = parts.significand.high as u16;
+            *exponent = parts.exponent;
             0
         }
-        SplitAnswer::Refused { why, .. } => number_of(why),
+        Err(refused) => refused.why.into(),
     }
 }

@@ -1,18 +1,20 @@
 // The exports of stem files.
 #![tactic(auto)]
 
-ghost use Rattle.std.specs.Prelude.{◌≡◌};
+ghost use Rattle.std.specs.Prelude.{◌≡◌, IfOk};
 ghost use Rattle.definitions.specs.Numbers.{first};
 ghost use Rattle.definitions.specs.Exports.{after};
 ghost use Rattle.definitions.specs.Stem.{stem, stem_number, file_kind, file_count, file_period, file_origin, header_length, gauge_of, handing, fold_reading};
 ghost use Rattle.definitions.specs.StemWriter.{write_fields};
+ghost use Rattle.gauges.specs.Refused.{told};
 
 use floats::{float_of, pattern_of};
-use gauges::{BAD_GAUGE, Gauge, gauge_of};
+use gauges::{GaugeFields, StemRefusal};
 use points::{Point, fold_point};
 use stem_writer::write_fields;
-use stems::{BAD_KIND, HEADER_LENGTH, POINT_LENGTH, StemAnswer, open_stem, points_of};
+use stems::{HEADER_LENGTH, POINT_LENGTH, open_stem, points_of};
 
+// C lends each field of a gauge by itself, and is told a refusal by its number.
 #[unsafe(no_mangle)]
 pub extern "C" fn zk_stem_open(
     file: &[u8],
@@ -30,28 +32,35 @@ pub extern "C" fn zk_stem_open(
     ensures count { count.new ≡ after result (file_count file.now) count.old }
 {
     match open_stem(file) {
-        StemAnswer::Refused(number) => number,
-        StemAnswer::Opened(gauge) => {
-            match gauge {
-                Gauge::Turn { period: p } => {
-                    *kind = 0;
-                    *period = pattern_of(p);
-                    *origin = 0;
-                }
-                Gauge::Roller {
-                    period: p,
-                    origin: o,
-                } => {
-                    *kind = 1;
-                    *period = pattern_of(p);
-                    *origin = pattern_of(o);
-                }
-            }
+        Ok(gauge) => {
+            let fields = GaugeFields::from(gauge);
+            *kind = fields.kind;
+            *period = fields.period;
+            *origin = fields.origin;
             *start = HEADER_LENGTH;
             *count = points_of(file).len() / POINT_LENGTH;
             0
         }
+        Err(refusal) => refusal.into(),
     }
+}
+
+fn fold_fields(fields: GaugeFields, reading: u64) -> Result<u64, StemRefusal>
+    ensures number { told result ≡ first (handing fields.kind fields.period fields.origin) }
+    ensures reading { IfOk result (λ x. x ≡ fold_reading (gauge_of fields.kind fields.period fields.origin) reading) }
+{
+    if 1 < fields.kind {
+        return Err(StemRefusal::BadKind);
+    }
+    if fields.kind == 0 && fields.origin != 0 {
+        return Err(StemRefusal::BadGauge);
+    }
+    let point = Point {
+        reading: float_of(reading),
+        radius: 0.0,
+    };
+    let answer = fold_point(fields.into(), point)?;
+    Ok(pattern_of(answer.reading))
 }
 
 #[unsafe(no_mangle)]
@@ -59,24 +68,18 @@ pub extern "C" fn zk_stem_fold(kind: u32, period: u64, origin: u64, reading: &mu
     ensures number { result ≡ first (handing kind period origin) }
     ensures reading { reading.new ≡ after result (fold_reading (gauge_of kind period origin) reading.old) reading.old }
 {
-    if 1 < kind {
-        return BAD_KIND;
-    }
-    if kind == 0 && origin != 0 {
-        return BAD_GAUGE;
-    }
-    let point = Point {
-        reading: float_of(*reading),
-        radius: 0.0,
+    let fields = GaugeFields {
+        kind,
+        period,
+        origin,
     };
-    let folded = fold_point(gauge_of(kind, period, origin), point);
-    let number = folded.number;
-    if number != 0 {
-        return number;
+    match fold_fields(fields, *reading) {
+        Ok(answer) => {
+            *reading = answer;
+            0
+        }
+        Err(refusal) => refusal.into(),
     }
-    let answer = folded.point;
-    *reading = pattern_of(answer.reading);
-    0
 }
 
 #[unsafe(no_mangle)]
@@ -93,10 +96,16 @@ pub extern "C" fn zk_stem_write(
     ensures room { room.new ≡ (write_fields kind period origin readings.now radii.now room.old).room }
     ensures written { written.new ≡ after result (write_fields kind period origin readings.now radii.now room.old).written written.old }
 {
-    let answer = write_fields(kind, period, origin, readings, radii, room);
-    if answer.number != 0 {
-        return answer.number;
+    let fields = GaugeFields {
+        kind,
+        period,
+        origin,
+    };
+    match write_fields(fields, readings, radii, room) {
+        Ok(length) => {
+            *written = length;
+            0
+        }
+        Err(refusal) => refusal.into(),
     }
-    *written = answer.written;
-    answer.number
 }

@@ -8,9 +8,8 @@ ghost use Rattle.definitions.specs.Block.{kind_of, block_after};
 ghost use Rattle.definitions.specs.Exports.{lending};
 
 use block::write;
-use checks::number_of;
 use definitions::Refusal;
-use interface::kind_of;
+use formats::X87;
 use steps::patterns::{run80, step80};
 
 // The length of the block, and the numbers of a partial step and of a run with a spent budget.
@@ -34,10 +33,18 @@ pub extern "C" fn zk_step80(
     ensures block { block.new ≡ block_after block.old (step_report (lending block.old) (kind_of kind) size (words xw x) (words yw y)) }
 {
     if block.len() != BLOCK_LENGTH {
-        return number_of(Refusal::BadLength);
+        return Refusal::BadLength.into();
     }
-    let answer = step80(x, xw, y, yw, size, kind_of(kind)).answer;
-    write(block, answer, PARTIAL)
+    let dividend = X87 {
+        significand: x,
+        word: xw,
+    };
+    let divisor = X87 {
+        significand: y,
+        word: yw,
+    };
+    let told = step80(dividend, divisor, size, kind.into());
+    write(block, told.answer, PARTIAL)
 }
 
 #[unsafe(no_mangle)]
@@ -55,8 +62,16 @@ pub extern "C" fn zk_run80(
     ensures block { block.new ≡ block_after block.old (run_report (lending block.old) (kind_of kind) size budget (words xw x) (words yw y)) }
 {
     if block.len() != BLOCK_LENGTH {
-        return number_of(Refusal::BadLength);
+        return Refusal::BadLength.into();
     }
-    let answer = run80(x, xw, y, yw, size, kind_of(kind), budget).answer;
-    write(block, answer, SPENT)
+    let dividend = X87 {
+        significand: x,
+        word: xw,
+    };
+    let divisor = X87 {
+        significand: y,
+        word: yw,
+    };
+    let told = run80(dividend, divisor, size, kind.into(), budget);
+    write(block, told.answer, SPENT)
 }

@@ -6,5 +6,5 @@ use Rattle.block.proofs.fill_block.Goals as goal
 pub returns : goal.returns
 returns c =
     let a = c.args in
-    filled a.value.low a.value.high a.number a.quotient _ a.steps (omega arith) c.shown_bits.ensures a.block.now _ _ _ _ c.requires.0 c.store8.ensures c.store2.ensures
-    c.store4.ensures c.store4-2.ensures
+    filled a.reached.value.low a.reached.value.high a.number a.reached.quotient _ a.reached.steps (omega arith) c.shown_bits.ensures a.block.now _ _ _ _ c.requires.0 c.store.ensures c.store-2.ensures
+    c.store-3.ensures c.store-4.ensures

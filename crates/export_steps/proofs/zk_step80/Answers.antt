@@ -1,38 +1,28 @@
 -- `zk_step80` meets its contract: a block of another length is refused, and else what `step80` answers is written.
-use mathlib.Core.Path.{◌≡◌, refl, sym, subst, ◌∙◌}
+use mathlib.Core.Path.{refl, sym, subst, ◌∙◌}
 use lib.ListN.{length}
 use Rattle.definitions.specs.Format.{words}
-use Rattle.definitions.specs.Reports.{step_report}
-use Rattle.definitions.specs.Answers.{step_meaning}
+use Rattle.definitions.specs.Reports.{nothing}
 use Rattle.definitions.specs.Block.{kind_of}
 use Rattle.chains.proofs.Small.{Small, step_small}
-use Rattle.definitions.specs.Exports.{lending}
 use Rattle.export_steps.proofs.Written.{misfit, step_fitting, step_misfit}
 use Rattle.export_steps.proofs.zk_step80.Goals as goal
 
 pub returns-then-block-ne-BLOCK_LENGTH : goal.returns-then-block-ne-BLOCK_LENGTH
 returns-then-block-ne-BLOCK_LENGTH c =
     let a = c.args in
-    let k = misfit _ a.block.now _ c.number_of.ensures (step_misfit (kind_of a.kind) a.size (words a.xw a.x) (words a.yw a.y) (length a.block.now) c.if-block-ne-BLOCK_LENGTH.true) in
+    let k = misfit _ a.block.now _ c.into.ensures (step_misfit (kind_of a.kind) a.size (words a.xw a.x) (words a.yw a.y) (length a.block.now) c.if-block-ne-BLOCK_LENGTH.true) in
     record { number = k.0; block = k.1 }
 
 pub write-requires : goal.write-requires
 write-requires c =
-    let told : let a = c.args in step_meaning c.step80-answer.result.answer ≡ step_report (lending a.block.now) (kind_of a.kind) a.size (words a.xw a.x) (words a.yw a.y) =
     let a = c.args in
-    (rw c.kind_of.ensures at c.step80-answer.ensures.answer)
-    ∙ step_fitting (kind_of a.kind) a.size (words a.xw a.x) (words a.yw a.y) (length a.block.now) c.if-block-ne-BLOCK_LENGTH.false
-    in
-    let a = c.args in
-    let h = subst Small (sym told) (step_small (lending a.block.now) (kind_of a.kind) a.size (words a.xw a.x) (words a.yw a.y)) in
+    let h = subst Small (sym c.step80-told.ensures.answer) (step_small nothing c.into-2.result a.size (words a.xw a.x) (words a.yw a.y)) in
     (c.if-block-ne-BLOCK_LENGTH.false, h.value, refl)
 
 pub returns : goal.returns
 returns c =
-    let told : let a = c.args in step_meaning c.step80-answer.result.answer ≡ step_report (lending a.block.now) (kind_of a.kind) a.size (words a.xw a.x) (words a.yw a.y) =
     let a = c.args in
-    (rw c.kind_of.ensures at c.step80-answer.ensures.answer)
-    ∙ step_fitting (kind_of a.kind) a.size (words a.xw a.x) (words a.yw a.y) (length a.block.now) c.if-block-ne-BLOCK_LENGTH.false
-    in
+    let told = (rw c.into-2.ensures at c.step80-told.ensures.answer) ∙ step_fitting (kind_of a.kind) a.size (words a.xw a.x) (words a.yw a.y) (length a.block.now) c.if-block-ne-BLOCK_LENGTH.false in
     let k = c.write.ensures in
     record { number = rw (← told) k.number; block = rw (← told) k.block }

@@ -1,4 +1,4 @@
--- `zk_scale32` meets its contract: what it writes is what `scale32` tells.
+-- `zk_scale32` meets its contract: what it writes is what the scaling tells.
 use mathlib.Core.Path.{◌≡◌}
 use native.Mathlib.Omega.{arith}
 use lib.Dec.{lit≤}
@@ -8,29 +8,20 @@ use Rattle.definitions.specs.Format.{binary32}
 use Rattle.definitions.specs.Scale.{scale_report}
 use Rattle.definitions.specs.Answers.{scale_meaning}
 use Rattle.laws.proofs.Regular.{regular32}
-use Rattle.export_scaling.proofs.WrittenScale.{value_small, scaled, refused}
+use Rattle.export_scaling.proofs.WrittenScale.{value_small, scaled, number_is}
+use Rattle.export_scaling.proofs.scale.zk_scale32.Goals.{After-scale}
 use Rattle.export_scaling.proofs.scale.zk_scale32.Goals as goal
 
+told : (c : After-scale) → let a = c.args in scale_meaning c.scale.result.answer ≡ scale_report binary32 a.x a.power
+told c = rw (to_z-of_z w32 c.args.power c.ranges.power) at c.scale.ensures.answer
+
 pub overflow_cast-value : goal.overflow_cast-value
-overflow_cast-value c =
-    let told : let a = c.args in scale_meaning c.scale32-answer.result.answer ≡ scale_report binary32 a.x a.power =
-    rw (to_z-of_z w32 c.args.power c.ranges.power) at c.scale32-answer.ensures.answer
-    in
-    omega (arith, value_small binary32 regular32 _ _ _ told _ _ c.in-Scaled.is)
+overflow_cast-value c = record { fits = omega (arith, value_small binary32 regular32 _ _ _ (told (goal.at.overflow_cast-value c).After-scale) _ c.in-Ok.is) }
 
-pub returns-in-Scaled : goal.returns-in-Scaled
-returns-in-Scaled c =
-    let told : let a = c.args in scale_meaning c.scale32-answer.result.answer ≡ scale_report binary32 a.x a.power =
-    rw (to_z-of_z w32 c.args.power c.ranges.power) at c.scale32-answer.ensures.answer
-    in
-    let w = scaled binary32 regular32 _ _ _ told _ _ c.in-Scaled.is _ c.says_number.ensures (lit≤ tt) in
+pub returns-in-Ok : goal.returns-in-Ok
+returns-in-Ok c =
+    let w = scaled binary32 regular32 _ _ _ (told (goal.at.returns-in-Ok c).After-scale) _ c.in-Ok.is _ c.into.ensures (lit≤ tt) in
     record { number = w.0; value = w.1.0; says = w.1.1 }
 
-pub returns-in-Refused : goal.returns-in-Refused
-returns-in-Refused c =
-    let told : let a = c.args in scale_meaning c.scale32-answer.result.answer ≡ scale_report binary32 a.x a.power =
-    rw (to_z-of_z w32 c.args.power c.ranges.power) at c.scale32-answer.ensures.answer
-    in
-    let a = c.args in
-    let w = refused binary32 regular32 _ _ _ told _ _ _ c.in-Refused.is c.number_of.ensures a.value.now a.says.now in
-    record { number = w.0; value = w.1.0; says = w.1.1 }
+pub returns-in-Err-clause-number : goal.returns-in-Err-clause-number
+returns-in-Err-clause-number c = number_is binary32 regular32 _ _ _ (told (goal.at.returns-in-Err-clause-number c).After-scale) _ _ c.in-Err.is c.into-in-Err.ensures

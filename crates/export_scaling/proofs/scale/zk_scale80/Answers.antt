@@ -1,4 +1,4 @@
--- `zk_scale80` meets its contract: what it writes is what `scale80` tells.
+-- `zk_scale80` meets its contract: what it writes is what the scaling tells.
 use mathlib.Core.Path.{◌≡◌}
 use native.Mathlib.Omega.{arith}
 use mir.Syntax.{w32}
@@ -7,29 +7,20 @@ use Rattle.definitions.specs.Format.{x87, words}
 use Rattle.definitions.specs.Scale.{scale_report}
 use Rattle.definitions.specs.Answers.{scale_meaning}
 use Rattle.laws.proofs.Regular.{regular80}
-use Rattle.export_scaling.proofs.WrittenScale.{value_small, scaled80, refused80}
+use Rattle.export_scaling.proofs.WrittenScale.{value_small, scaled80, number_is}
+use Rattle.export_scaling.proofs.scale.zk_scale80.Goals.{After-scale}
 use Rattle.export_scaling.proofs.scale.zk_scale80.Goals as goal
 
+told : (c : After-scale) → let a = c.args in scale_meaning c.scale.result.answer ≡ scale_report x87 (words a.xw a.x) a.power
+told c = rw (to_z-of_z w32 c.args.power c.ranges.power) at c.scale.ensures.answer
+
 pub overflow_cast-valuew : goal.overflow_cast-valuew
-overflow_cast-valuew c =
-    let told : let a = c.args in scale_meaning c.scale80-answer.result.answer ≡ scale_report x87 (words a.xw a.x) a.power =
-    rw (to_z-of_z w32 c.args.power c.ranges.power) at c.scale80-answer.ensures.answer
-    in
-    omega (arith, value_small x87 regular80 _ _ _ told _ _ c.in-Scaled.is)
+overflow_cast-valuew c = record { fits = omega (arith, value_small x87 regular80 _ _ _ (told (goal.at.overflow_cast-valuew c).After-scale) _ c.in-Ok.is) }
 
-pub returns-in-Scaled : goal.returns-in-Scaled
-returns-in-Scaled c =
-    let told : let a = c.args in scale_meaning c.scale80-answer.result.answer ≡ scale_report x87 (words a.xw a.x) a.power =
-    rw (to_z-of_z w32 c.args.power c.ranges.power) at c.scale80-answer.ensures.answer
-    in
-    let w = scaled80 x87 regular80 _ _ _ told _ _ c.in-Scaled.is _ c.says_number.ensures (omega arith) in
+pub returns-in-Ok : goal.returns-in-Ok
+returns-in-Ok c =
+    let w = scaled80 x87 regular80 _ _ _ (told (goal.at.returns-in-Ok c).After-scale) _ c.in-Ok.is _ c.into.ensures (omega arith) in
     record { number = w.0; value = w.1.0; valuew = w.1.1.0; says = w.1.1.1 }
 
-pub returns-in-Refused : goal.returns-in-Refused
-returns-in-Refused c =
-    let told : let a = c.args in scale_meaning c.scale80-answer.result.answer ≡ scale_report x87 (words a.xw a.x) a.power =
-    rw (to_z-of_z w32 c.args.power c.ranges.power) at c.scale80-answer.ensures.answer
-    in
-    let a = c.args in
-    let w = refused80 x87 regular80 _ _ _ told _ _ _ c.in-Refused.is c.number_of.ensures a.value.now a.valuew.now a.says.now in
-    record { number = w.0; value = w.1.0; valuew = w.1.1.0; says = w.1.1.1 }
+pub returns-in-Err-clause-number : goal.returns-in-Err-clause-number
+returns-in-Err-clause-number c = number_is x87 regular80 _ _ _ (told (goal.at.returns-in-Err-clause-number c).After-scale) _ _ c.in-Err.is c.into-in-Err.ensures
