@@ -50,6 +50,7 @@ code 'double twice(double x) { return x + x; }' 'computes by addsd$'
 code 'long double twice(long double x) { return x + x; }' 'computes by f'
 code 'int is_nan(double x) { return x != x; }' 'computes by ucomisd$'
 code 'float minus(float x) { return -x; }' 'computes by xorps$'
+code 'double minus(double x) { return -x; }' 'computes by xorpd$'
 code 'long ask(void) { long r; __asm__ volatile("syscall" : "=a"(r) : "0"(12L) : "rcx", "r11", "memory"); return r; }' 'computes by syscall$'
 code 'void *malloc(unsigned long); void *room(unsigned long n) { return malloc(n); }' '^asks for malloc$'
 code 'static int calls; int next(void) { return ++calls; }' '^keeps data in .bss$'
@@ -111,8 +112,8 @@ page docs/SCOPE.md '0,/^2[.] /s/^2[.] /99. /' 'has no sentence 1.2$'
 page include/zukemoriha.h 's/ZK_VERSION "/&9/' 'different versions$'
 page crates/export_fold/src/lib.rt '/^    ensures number/i\    requires { }' '^crates/export_fold/src/lib.rt: a host would have to look first$'
 page crates/packing/src/pack.rt 's/^    let kept = trim/    while false {}\n&/' 'other loops: crates/division/src/turns.rt crates/packing/src/pack.rt \(crates/short_division/src/lib.rt \)\{0,1\}$'
-page crates/packing/src/pack.rt 's/^    let kept = trim/    value_fields(shape, value);\n&/' 'has recursion: crates/packing/src/pack.rt: value_fields$'
-page crates/division/src/turns.rt 's/^    divide_words(high/    divide_words(x, y, b, v);\n&/' 'turns.rt calls divide_words 3 times, not 2$'
+page crates/packing/src/pack.rt 's/^    let kept = trim/    value_fields::<F>(value);\n&/' 'has recursion: crates/packing/src/pack.rt: value_fields$'
+page crates/division/src/turns.rt 's/^    b.divide_words(high/    b.divide_words(x, y);\n&/' 'turns.rt calls divide_words 3 times, not 2$'
 
 # held STATUS VERDICT LINE...    what rt ci prints, its verdict last: tests/held.sh ends so, and holds this verdict back
 held() {
