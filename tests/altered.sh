@@ -111,8 +111,12 @@ page docs/PROOF.md 's/^- \[1[.]2\]/- [1.99]/' 'has no sentence 1.99$'
 page docs/SCOPE.md '0,/^2[.] /s/^2[.] /99. /' 'has no sentence 1.2$'
 page include/zukemoriha.h 's/ZK_VERSION "/&9/' 'different versions$'
 page crates/export_fold/src/lib.rt '/^    ensures number/i\    requires { }' '^crates/export_fold/src/lib.rt: a host would have to look first$'
+page crates/remainder/src/patterns.rt '/^    fn remainder(self, divisor: Self/a\        requires { }' '^crates/remainder/src/patterns.rt: a host would have to look first$'
 page crates/packing/src/pack.rt 's/^    let kept = trim/    while false {}\n&/' 'other loops: crates/division/src/turns.rt crates/packing/src/pack.rt \(crates/short_division/src/lib.rt \)\{0,1\}$'
 page crates/packing/src/pack.rt 's/^    let kept = trim/    value_fields::<F>(value);\n&/' 'has recursion: crates/packing/src/pack.rt: value_fields$'
+page crates/reciprocals/src/lib.rt '/requires { hi < self.divisor }/,/let d/s/^        let d/        self.divide_words(hi, lo);\n&/' 'has recursion: crates/reciprocals/src/lib.rt: divide_words$'
+page crates/reciprocals/src/lib.rt 's/^            reciprocal: reciprocal(d)/            divisor: reciprocal(d),\n&/' 'reciprocals/src/lib.rt calls reciprocal 2 times, not 1$'
+page crates/remainder/src/patterns.rt 's/^        remainder64_counted(self/        remainder_short(self, divisor, kind);\n&/' '^crates/remainder/src/patterns.rt: remainder calls quick_short$'
 page crates/division/src/turns.rt 's/^    b.divide_words(high/    b.divide_words(x, y);\n&/' 'turns.rt calls divide_words 3 times, not 2$'
 
 # held STATUS VERDICT LINE...    what rt ci prints, its verdict last: tests/held.sh ends so, and holds this verdict back

@@ -69,7 +69,9 @@ for sentence in $(grep -rhoE '\[[0-9]+[.][0-9]+[^]]*\]' crates/*/specs crates/*/
 done
 called=$(awk '/^- \[1.2\]/ { within = 1; print; next } /^- / { within = 0 } within' docs/PROOF.md | grep -oE '`crates/[^`]*`' | tr -d '`')
 for file in $(find $called -name out -prune -o -name '*.rt' -print); do
-    awk '/^pub (extern "C" )?fn / { host = 1 } /^{/ { host = 0 } host && /^ *requires/ { print FILENAME ": a host would have to look first"; bad = 1 }
+    # a trait's methods and those that meet one are public too
+    awk '/^pub trait |^impl.* for / { met = 1 } /^}/ { met = 0 } /^ *pub (extern "C" )?fn / || met && /^    fn / { host = 1 }
+        host && /^ *requires/ { print FILENAME ": a host would have to look first"; bad = 1 } /^ *{$|[{;]$/ { host = 0 }
         END { exit bad }' "$file" || wrong=1
 done
 # [3.10] what a binary64 remainder runs: the crate of its export and all below it
@@ -84,7 +86,7 @@ recursive=$(for crate in $crates; do find crates/$crate -name out -prune -o -nam
     grep -HE '^ *#\[cycle' $code || true
     for file in $code; do
         awk '/^ *(pub )?(extern "C" )?fn [a-z0-9_]+/ { match($0, /fn [a-z0-9_]+/); name = substr($0, RSTART + 3, RLENGTH - 3); next }
-            name != "" && $0 !~ /^ *\/\// && $0 ~ ("(^|[^a-z0-9_.])" name "(::<[A-Za-z0-9]+>)?[(]") { print FILENAME ": " name }' "$file"
+            name != "" && $0 !~ /^ *\/\// && $0 ~ ("(^|[^a-z0-9_])" name "(::<[A-Za-z0-9]+>)?[(]") { print FILENAME ": " name }' "$file"
     done)
 [ -z "$recursive" ] || say "docs/PROOF.md: a binary64 remainder has recursion: $recursive"
 # [3.9] the calls that divide, as often as section 5 says
@@ -101,8 +103,9 @@ case " $crates " in *[[:space:]]short_division[[:space:]]*)
     wanted="$wanted""crates/short_division/src/lib.rt "
     [ "$(grep -rl 'use short_division\|short_division::' crates/*/src | sort | tr '\n' ' ')" = 'crates/quick_short/src/lib.rt ' ] ||
         say 'docs/PROOF.md: more than quick_short calls short_division'
-    awk '/^(pub )?fn / { match($0, /fn [a-z0-9_]+/); name = substr($0, RSTART + 3, RLENGTH - 3) }
-        /is_quick|remainder_quick|remainder_short[(]/ && $0 !~ /^(use|ghost use|    (ensures|requires)) / && name !~ /^remainder(16|32|_short)$/ { print FILENAME ": " name " calls quick_short"; bad = 1 }
+    awk '/^impl / { met = $0 } /^}/ { met = "" } /^ *(pub )?fn / { match($0, /fn [a-z0-9_]+/); name = substr($0, RSTART + 3, RLENGTH - 3) }
+        /is_quick|remainder_quick|remainder_short[(]/ && $0 !~ /^ *(use|ghost use|ensures|requires) / && name != "remainder_short" &&
+            met !~ /^impl Remainder for Binary(16|32) / { print FILENAME ": " name " calls quick_short"; bad = 1 }
         END { exit bad }' crates/remainder/src/patterns.rt || wrong=1
     ;;
 esac

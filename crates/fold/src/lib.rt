@@ -14,7 +14,7 @@ use definitions::{Kind, Refusal};
 use formats::Binary64;
 use packing::unpack::unpack;
 use places::{Alone, Divisor, Places, Shared};
-use prepared::Prepared;
+use prepared::WithPowers;
 use quick::{field_of, spread};
 
 // From so many elements on, preparing pays.
@@ -57,7 +57,7 @@ fn fold_places(
     if x.len() < LONG {
         return fill(alone, x, results, quotients);
     }
-    let mut prepared = Prepared::new(spread(divisor.pattern));
+    let mut prepared = WithPowers::new(spread(divisor.pattern));
     let shared = Shared {
         alone,
         prepared: &mut prepared,

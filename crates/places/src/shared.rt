@@ -4,7 +4,7 @@ ghost use Rattle.quick.specs.Common.{spread_of, common};
 ghost use Rattle.places.specs.Places.{place_at};
 
 use crate::{Alone, Place, Places};
-use prepared::Prepared;
+use prepared::WithPowers;
 use quick::{SIGN, field_of, is_common, settle, spread, written};
 use quotients::shown_bits;
 
@@ -12,7 +12,7 @@ use quotients::shown_bits;
 #[derive(Drop)]
 pub struct Shared<'a> {
     pub alone: Alone,
-    pub prepared: &'a mut Prepared,
+    pub prepared: &'a mut WithPowers,
     pub ghost same: { prepared.now ≡ spread_of alone.divisor.pattern },
 }
 

@@ -4,28 +4,28 @@
 #![tactic(auto)]
 
 mod modulus;
-mod powers;
+pub mod powers;
 
 ghost use Rattle.std.specs.Prelude.{◌≡◌, ◌%◌, ◌^◌, ◌<◌, ◌≤◌};
 ghost use Rattle.prepared.specs.Prepared.{slot_of, shown_of};
 
-use crate::modulus::Modulus;
+pub use crate::modulus::{Prepared, REACH};
 use crate::powers::{extend, slot};
 use division::Divided;
 use std::marker::Model;
 use std::num::wrapping_add_u64;
 
-// A divisor's significand, and a table of powers of two modulo it with as many as were wanted so far. It is no ArrayVec: that one is filled
+// A prepared divisor, and a table of powers of two modulo it with as many as were wanted so far. It is no ArrayVec: that one is filled
 // with zeros by `memset`, and the library asks for no such symbol.
 #[derive(Drop)]
-pub struct Prepared {
-    modulus: Modulus,
+pub struct WithPowers {
+    modulus: Prepared,
     powers: [u64; 36],
     known: usize,
 }
 
 // Clauses see the divisor, with its leading one at bit 63.
-impl Model for Prepared {
+impl Model for WithPowers {
     ghost use Rattle.std.specs.Prelude.{ℕ, ◌*◌, ◌^◌};
     ghost use Rattle.prepared.specs.Prepared.{Powers};
 
@@ -36,14 +36,14 @@ impl Model for Prepared {
     ghost invariant = { λ d. Powers d.modulus.significand d.known d.powers };
 }
 
-impl Prepared {
+impl WithPowers {
     // b has its leading one at bit 63, and eleven spare bits. The power of no places is 1.
     pub fn new(b: u64) -> Self
         requires { (2 ^ 63 ≤ b) × (b % 2 ^ 11 ≡ 0) }
         ensures { result ≡ b }
     {
-        Prepared {
-            modulus: Modulus::new(b),
+        WithPowers {
+            modulus: Prepared::new(b),
             powers: [1; 36],
             known: 1,
         }

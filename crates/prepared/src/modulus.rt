@@ -7,14 +7,14 @@ use products::{high, low};
 use reciprocals::{Quotient, reciprocal};
 
 // The reciprocal is 2^(64 + REACH) / m.
-const REACH: u32 = 52;
+pub const REACH: u32 = 52;
 
 // 2^52.
 const UNIT: u64 = 4503599627370496;
 
 // A divisor's significand m, and 2^116 / m, cut; one less where m divides it.
 #[derive(Clone, Copy)]
-pub struct Modulus {
+pub struct Prepared {
     pub significand: u64,
     pub reciprocal: u64,
     pub ghost top: { 2 ^ 52 ≤ significand },
@@ -23,13 +23,13 @@ pub struct Modulus {
     pub ghost above: { 2 ^ 116 ≤ reciprocal * significand + significand },
 }
 
-impl Modulus {
+impl Prepared {
     // b has its leading one at bit 63, and eleven spare bits. `reciprocal` leaves 2^64 out; half of the whole is m's, and so 2^63 comes back.
     pub fn new(b: u64) -> Self
         requires { (2 ^ 63 ≤ b) × (b % 2 ^ 11 ≡ 0) }
         ensures { result.significand * 2 ^ 11 ≡ b }
     {
-        Modulus {
+        Prepared {
             significand: b / 2048,
             reciprocal: 9223372036854775808 + reciprocal(b) / 2,
         }

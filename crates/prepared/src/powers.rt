@@ -3,7 +3,7 @@
 ghost use Rattle.std.specs.Prelude.{◌≡◌, ◌<◌, ◌≤◌};
 ghost use Rattle.prepared.specs.Prepared.{Powers, slot_of};
 
-use crate::modulus::Modulus;
+use crate::modulus::Prepared;
 
 // The power that a number of places starts from. From the second one on 4 to 61 places are left: three of them tell what is shown of a
 // quotient, and with 61 no word overflows.
@@ -18,7 +18,7 @@ pub fn slot(places: u32) -> usize
 }
 
 // The table with the powers up to the wanted one, and how many it then holds.
-pub fn extend(table: &mut [u64; 36], known: usize, wanted: usize, m: Modulus) -> usize
+pub fn extend(table: &mut [u64; 36], known: usize, wanted: usize, m: Prepared) -> usize
     requires { Powers m.significand known table.old × (wanted < 36) }
     ensures { Powers m.significand result table.new × (known ≤ result) × (wanted < result) }
 {

@@ -1,9 +1,9 @@
--- `Modulus::new` meets its contract.
+-- `Prepared::new` meets its contract.
 use Rattle.std.proofs.Common.{◌≡◌, ℕ, ◌+◌, ◌-◌, ◌*◌, ◌/◌, ◌%◌, ◌^◌, ◌<◌, ◌≤◌, refl, arith}
 use Rattle.reciprocals.specs.Reciprocal.{reciprocal_of}
 use Rattle.reciprocals.proofs.Quotients.{inverse, inverse_left}
 use Rattle.prepared.proofs.Halved.{halved_below, halved_above}
-use Rattle.prepared.proofs.modulus.Modulus.new.Goals as goal
+use Rattle.prepared.proofs.modulus.Prepared.new.Goals as goal
 
 -- b and its reciprocal v
 module _ (b v : ℕ) (top : 2 ^ 63 ≤ b) (word : b < 2 ^ 64) (spare : b % 2 ^ 11 ≡ 0) (is : v ≡ reciprocal_of b) where

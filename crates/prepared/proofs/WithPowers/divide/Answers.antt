@@ -3,8 +3,8 @@ use Rattle.std.proofs.Common.{◌≡◌, ℕ, ◌+◌, ◌-◌, ◌*◌, ◌/◌
 use Rattle.reciprocals.specs.declared.Quotient.{Quotient}
 use Rattle.prepared.specs.Prepared.{Shows, shown_of}
 use Rattle.prepared.proofs.Shown.{shows_itself, shows_shifted, settled, spread_shown}
-use Rattle.prepared.proofs.Prepared.divide.Goals.{else-j-eq0, else-m-rest, then-j-eq0, then-m-rest}
-use Rattle.prepared.proofs.Prepared.divide.Goals as goal
+use Rattle.prepared.proofs.WithPowers.divide.Goals.{else-j-eq0, else-m-rest, then-j-eq0, then-m-rest}
+use Rattle.prepared.proofs.WithPowers.divide.Goals as goal
 
 off_once : (r m : ℕ) → m ≤ r → r < m + m → (m * 1 ≤ r) × (r - m * 1 < m)
 off_once r m h l = (omega arith, omega arith)

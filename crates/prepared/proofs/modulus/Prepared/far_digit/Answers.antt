@@ -4,7 +4,7 @@ use native.Mathlib.Nat.{mul-add-mod_self_right}
 use Rattle.digits.proofs.Common.{mod_times}
 use Rattle.division.proofs.Digits.{shifted_le}
 use Rattle.prepared.proofs.Shown.{shows_same}
-use Rattle.prepared.proofs.modulus.Modulus.far_digit.Goals as goal
+use Rattle.prepared.proofs.modulus.Prepared.far_digit.Goals as goal
 
 -- its halves, which the code joins
 halves : (n hi lo : ℕ) → hi ≡ n / 2 ^ 64 → lo ≡ n % 2 ^ 64 → hi * 2 ^ 12 + lo / 2 ^ 52 ≡ n / 2 ^ 52

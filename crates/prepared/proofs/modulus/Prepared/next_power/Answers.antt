@@ -1,7 +1,7 @@
 -- `next_power` meets its contract.
 use Rattle.std.proofs.Common.{ℕ, ◌%◌, sym, ap, ◌∙◌}
 use native.Mathlib.Nat.{mul-add-mod_self_right}
-use Rattle.prepared.proofs.modulus.Modulus.next_power.Goals as goal
+use Rattle.prepared.proofs.modulus.Prepared.next_power.Goals as goal
 
 pub returns : goal.returns
 returns c =
