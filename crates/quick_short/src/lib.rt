@@ -120,20 +120,20 @@ fn remainder_common<F: Short>(x: u64, y: u64, kind: Kind) -> Residue<u32>
     }
 }
 
-// Whether two patterns are normal numbers that have their remainder here.
-pub fn is_quick<F: Short>(x: F, y: F, kind: Kind) -> bool
-    ensures { result ≡ quick F.format kind (F.bits x) (F.bits y) }
+// Whether two words are normal patterns that have their remainder here. Any two words may be asked about.
+pub fn is_quick<F: Short>(x: u64, y: u64, kind: Kind) -> bool
+    ensures { result ≡ quick F.format kind x y }
 {
-    is_common::<F>(x.word(), y.word()) || is_kept::<F>(x.word(), y.word(), kind)
+    is_common::<F>(x, y) || is_kept::<F>(x, y, kind)
 }
 
-pub fn remainder_quick<F: Short>(x: F, y: F, kind: Kind) -> Residue<u32>
-    requires { quick F.format kind (F.bits x) (F.bits y) ≡ true }
-    ensures { record { number = 0; value = joined result.value; quotient = result.quotient } ≡ remainder F.format kind (F.bits x) (F.bits y) }
+pub fn remainder_quick<F: Short>(x: u64, y: u64, kind: Kind) -> Residue<u32>
+    requires { (x < patterns F.format) × (quick F.format kind x y ≡ true) }
+    ensures { record { number = 0; value = joined result.value; quotient = result.quotient } ≡ remainder F.format kind x y }
 {
-    if is_common::<F>(x.word(), y.word()) {
-        remainder_common::<F>(x.word(), y.word(), kind)
+    if is_common::<F>(x, y) {
+        remainder_common::<F>(x, y, kind)
     } else {
-        remainder_kept::<F>(x.word(), y.word(), kind)
+        remainder_kept::<F>(x, y, kind)
     }
 }

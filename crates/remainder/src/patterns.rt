@@ -54,8 +54,10 @@ fn remainder_short<F: Short>(x: F, y: F, kind: Kind) -> Told<Residue<u32>>
     ensures answer { remainder_meaning result.answer ≡ remainder F.format kind (F.bits x) (F.bits y) }
     ensures denormal { result.denormal ≡ told_denormal F.format (remainder F.format kind (F.bits x) (F.bits y)).number (F.bits x) (F.bits y) }
 {
-    if is_quick(x, y, kind) {
-        return told(remainder_quick(x, y, kind));
+    let dividend = x.word();
+    let divisor = y.word();
+    if is_quick::<F>(dividend, divisor, kind) {
+        return told(remainder_quick::<F>(dividend, divisor, kind));
     }
     remainder_general(x, y, kind)
 }

@@ -10,8 +10,11 @@ returns-then-is_quick g c =
     let a = c.args in
     let x = g.F.Format.bits a.x in
     let y = g.F.Format.bits a.y in
-    let q = c.remainder_quick in
     let t = c.told in
-    let n = both_normal f g.met.F.Short.short x y a.kind (sym c.is_quick.ensures ∙ c.if-is_quick.true) in
-    let k = normals_told f a.kind x y n.0 n.1 q.result t.result t.ensures.answer t.ensures.denormal q.ensures in
+    let i = c.word-dividend.ensures.bits in
+    let j = c.word-divisor.ensures.bits in
+    let quick = rw (i, j) at (sym c.is_quick.ensures ∙ c.if-is_quick.true) in
+    let answer = rw (i, j) at c.remainder_quick.ensures in
+    let n = both_normal f g.met.F.Short.short x y a.kind quick in
+    let k = normals_told f a.kind x y n.0 n.1 c.remainder_quick.result t.result t.ensures.answer t.ensures.denormal answer in
     record { answer = k.0; denormal = k.1 }
