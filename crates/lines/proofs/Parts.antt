@@ -1,12 +1,11 @@
 -- Parts of a list. Assumes nothing.
-use mathlib.Core.Path.{◌≡◌, refl, sym, ap, ◌∙◌}
+use mathlib.Core.Path.{◌≡◌, ap, ◌∙◌}
 use mathlib.Core.List.{List, [], ◌∷◌, ◌++◌}
-use Prim.Native.Nat.{ℕ, zero, suc, ◌+◌, ◌-◌, min, ◌≤◌, ◌<◌}
-use native.Mathlib.Nat.{le_refl, sub-zero, zero-sub, suc-sub-suc, zero-min, min-zero, suc-min-suc}
+use Prim.Native.Nat.{ℕ, suc, ◌+◌, ◌-◌, ◌≤◌, ◌<◌}
+use native.Mathlib.Nat.{le_refl}
 use native.Mathlib.Omega.{arith}
-use native.Mathlib.Numerals.{add-one}
-use lib.ListN.{length, get_or, set, take, drop, length-drop}
-use lib.Seq.{take-nil, take_all, take-suc, take-suc-set, get_or-drop, drop-drop, drop-set-lt}
+use lib.ListN.{length, get_or, take, drop, length-drop}
+use lib.Seq.{take_all, take-suc, get_or-drop}
 
 -- all that comes after a place
 pub rest_whole : (b : ℕ) (l : List ℕ) → take (length l - b) (drop b l) ≡ drop b l

@@ -6,6 +6,7 @@ mod output;
 ghost use Rattle.std.specs.Prelude.{◌≡◌};
 ghost use Rattle.definitions.specs.Line.{line_for};
 ghost use Rattle.lines.specs.Fields.{fields_of};
+ghost use Rattle.lines.specs.Output.{output_of};
 
 use definitions::Kind;
 use formats::Binary64;
@@ -26,7 +27,7 @@ fn read_fields(line: &[u8]) -> Option<(u64, u64)>
 
 // A line of input, without its newline, answered.
 pub fn answer_line(line: &[u8]) -> Output
-    ensures { result.items ≡ line_for line.now }
+    ensures { result ≡ output_of (line_for line.now) }
 {
     let Some((x, y)) = read_fields(line) else {
         return bad_line();

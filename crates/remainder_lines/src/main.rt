@@ -3,19 +3,27 @@
 // input, and rust/compare/tests/lines.rs.
 #![tactic(auto)]
 
-ghost use Rattle.std.specs.Prelude.{◌≡◌, [], OnOk};
+ghost use Rattle.std.specs.Prelude.{◌≡◌, ◌≤◌, length, take, IfOk};
 
-use arrayvec::{ArrayString, ArrayVec};
+use arrayvec::ArrayString;
 use std::fmt::Write as _;
 use std::io::{Read, Write};
 use std::{fmt, io};
 use stream::{answer_last, answer_lines};
 
 // Room for a buffer of input: a line that has begun, and what one read brings.
-type Input = ArrayVec<u8, 65536>;
+fn input_room() -> [u8; 65536]
+    ensures { 65536 ≡ length result }
+{
+    [0; 65536]
+}
 
 // Room for the answers of a whole buffer of input: an empty line takes one byte there, and its answer nine.
-type Answers = ArrayVec<u8, 589836>;
+fn room() -> [u8; 589836]
+    ensures { 589836 ≡ length result }
+{
+    [0; 589836]
+}
 
 // A call that has failed, and why.
 #[derive(Debug, Drop)]
@@ -38,40 +46,44 @@ impl fmt::Display for Failure {
     }
 }
 
-// Writes the answers that wait, and leaves room for others.
-fn write_answers(rt: &HostRuntime, out: &mut Answers) -> Result<(), Failure>
-    ensures { OnOk result (out.new.items ≡ []) }
-{
-    rt.stdout().write_all(out).map_err(Failure::Writing)?;
-    out.clear();
-    Ok(())
+fn write_answers(rt: &HostRuntime, answers: &[u8]) -> Result<(), Failure> {
+    rt.stdout().write_all(answers).map_err(Failure::Writing)
 }
 
-// Answers all that is read, and at the end a last line that has no newline. A proved loop has to end, and nothing says that an input
-// does: it takes turns up to a number that no run uses up.
-fn answer_input(rt: &HostRuntime) -> Result<(), Failure> {
-    let mut input = Input::new();
-    let mut out = Answers::new();
-    let mut piece = [0; 65536];
+// Reads to the end, writes the answers of all lines that end, and says how many bytes are kept of a last line that has no newline. A
+// proved loop has to end, and nothing says that an input does: it takes turns up to a number that no run uses up.
+fn answer_input(rt: &HostRuntime, buffer: &mut [u8], out: &mut [u8]) -> Result<usize, Failure>
+    requires { (length buffer.old ≡ 65536) × (length out.old ≡ 589836) }
+    ensures inside { IfOk result (λ kept. (kept ≤ length buffer.new) × (kept ≡ length (take kept buffer.new))) }
+    ensures short { IfOk result (λ kept. kept ≤ 34) }
+{
+    let mut kept = 0;
     for _ in 0..u64::MAX {
-        let room = input.remaining_capacity();
         let got = rt
             .stdin()
-            .read(&mut piece[..room])
+            .read(&mut buffer[kept..])
             .map_err(Failure::Reading)?;
         if got == 0 {
             break;
         }
-        input.try_extend_from_slice(&piece[..got]).unwrap();
-        answer_lines(&mut input, &mut out);
-        write_answers(rt, &mut out)?;
+        let turn = answer_lines(buffer, kept + got, out);
+        write_answers(rt, &out[..turn.written])?;
+        kept = turn.kept;
     }
-    answer_last(&input, &mut out);
-    write_answers(rt, &mut out)
+    Ok(kept)
+}
+
+// Answers all that is read, and at the end a last line that has no newline.
+fn answer_all(rt: &HostRuntime) -> Result<(), Failure> {
+    let mut buffer = input_room();
+    let mut out = room();
+    let kept = answer_input(rt, &mut buffer, &mut out)?;
+    let written = answer_last(&buffer[..kept], &mut out);
+    write_answers(rt, &out[..written])
 }
 
 fn main(rt: HostRuntime) {
-    if let Err(failure) = answer_input(&rt) {
+    if let Err(failure) = answer_all(&rt) {
         let _ = eprintln!(rt; "{failure}");
     }
 }

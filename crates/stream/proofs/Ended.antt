@@ -1,6 +1,6 @@
 -- The lines that end in an input answered one by one. Assumes nothing.
 use mathlib.Core.Path.{◌≡◌, refl, sym, ap, ◌∙◌}
-use mathlib.Core.List.{List, [], ◌∷◌, ◌++◌, append-nil, append_assoc}
+use mathlib.Core.List.{List, [], ◌∷◌, ◌++◌, append-nil}
 use Prim.Native.Nat.{ℕ, ◌+◌, ◌-◌, ◌*◌, ◌≤◌, ◌<◌, zero-le}
 use native.Mathlib.Numerals.{add-one}
 use native.Mathlib.Omega.{arith}
@@ -8,20 +8,24 @@ use borrow.Author.Tests.{eq-eqb, ne_eqb}
 use lib.ListN.{length, get_or, take, drop, length-append, length-drop}
 use lib.Seq.{take_all, take-suc, length-take-le}
 use Rattle.definitions.specs.Line.{newline, answered, written_at, begun_at, written, begun}
+use Rattle.stream.specs.Stream.{Put, Passed}
+use Rattle.stream.specs.declared.Pass.{Pass}
 use Rattle.stream.proofs.Appended.{written_append, begun_append}
+use Rattle.stream.proofs.Holding.{holding}
 use Rattle.lines.proofs.Parts.{rest_whole, part_more}
 use Rattle.stream.proofs.LineLength.{answered_length}
 
--- The first i bytes of an input taken: the line that has begun at `begin`, what was put after `out`, and that there is room for all.
-pub record SoFar (input out out' : List ℕ) (begin i : ℕ) : Type 0 where
+-- The first i bytes of an input taken: the line that has begun at `begin`, what was put into `out` up to `at`, and that there is room for all.
+pub record SoFar (input out : List ℕ) (begin at i : ℕ) : Type 0 where
   pub order : begin ≤ i
   pub inside : i ≤ length input
   pub line : begun [] (take i input) ≡ take (i - begin) (drop begin input)
-  pub bytes : out' ≡ out ++ written [] (take i input)
-  pub room : length out' ≤ length out + 9 * begin
+  pub bytes : take at out ≡ written [] (take i input)
+  pub end : at ≡ length (written [] (take i input))
+  pub room : at ≤ 9 * begin
 
-pub none_yet : (input out : List ℕ) → SoFar input out out 0 0
-none_yet input out = record { order = zero-le; inside = zero-le; line = refl; bytes = sym (append-nil out); room = omega arith }
+pub none_yet : (input out : List ℕ) → SoFar input out 0 0 0
+none_yet input out = record { order = zero-le; inside = zero-le; line = refl; bytes = refl; end = refl; room = zero-le }
 
 module _ (input : List ℕ) (i : ℕ) (h : i < length input) where
   one_more : take (i + 1) input ≡ take i input ++ (get_or input i 0 ∷ [])
@@ -36,9 +40,9 @@ module _ (input : List ℕ) (i : ℕ) (h : i < length input) where
   begun_next = ap (begun []) one_more ∙ begun_append [] (take i input) (get_or input i 0 ∷ [])
 
   -- a newline
-  pub line_ended : (out out' : List ℕ) (begin : ℕ) → get_or input i 0 ≡ newline → SoFar input out out' begin i
-      → SoFar input out (out' ++ answered (take (i - begin) (drop begin input))) (i + 1) (i + 1)
-  line_ended out out' begin n s =
+  pub line_ended : (out out' : List ℕ) (begin at at' : ℕ) → get_or input i 0 ≡ newline → SoFar input out begin at i
+      → Put (take (i - begin) (drop begin input)) out out' at at' → SoFar input out' (i + 1) at' (i + 1)
+  line_ended out out' begin at at' n s p =
       let line = take (i - begin) (drop begin input) in
       let told : written_at (begun [] (take i input)) (get_or input i 0) ≡ answered line = rw (eq-eqb (get_or input i 0) newline n, s.line) refl in
       let none : begun_at (begun [] (take i input)) (get_or input i 0) ≡ [] = rw (eq-eqb (get_or input i 0) newline n) refl in
@@ -49,13 +53,14 @@ module _ (input : List ℕ) (i : ℕ) (h : i < length input) where
         order = omega arith;
         inside = omega arith;
         line = rw zero (begun_next ∙ none);
-        bytes = ap (λ (l : List ℕ). l ++ answered line) s.bytes ∙ append_assoc out (written [] (take i input)) (answered line) ∙ ap (λ (l : List ℕ). out ++ l) (sym all);
-        room = rw (length-append out' (answered line)) (omega (arith, s.room, s.order, answered_length line));
+        bytes = p.bytes ∙ ap (λ (l : List ℕ). l ++ answered line) s.bytes ∙ sym all;
+        end = rw (all, length-append (written [] (take i input)) (answered line)) (omega (arith, p.end, s.end));
+        room = omega (arith, p.end, s.room, s.order, answered_length line);
       }
 
   -- any other byte
-  pub line_longer : (out out' : List ℕ) (begin : ℕ) → (get_or input i 0 ≡ newline → ⊥) → SoFar input out out' begin i → SoFar input out out' begin (i + 1)
-  line_longer out out' begin n s =
+  pub line_longer : (out : List ℕ) (begin at : ℕ) → (get_or input i 0 ≡ newline → ⊥) → SoFar input out begin at i → SoFar input out begin at (i + 1)
+  line_longer out begin at n s =
       let told : written_at (begun [] (take i input)) (get_or input i 0) ≡ [] = rw (ne_eqb (get_or input i 0) newline n) refl in
       let longer : begun_at (begun [] (take i input)) (get_or input i 0) ≡ begun [] (take i input) ++ (get_or input i 0 ∷ []) = rw (ne_eqb (get_or input i 0) newline n) refl in
       let all : written [] (take (i + 1) input) ≡ written [] (take i input) = written_next ∙ ap (λ (l : List ℕ). written [] (take i input) ++ l) told ∙ append-nil (written [] (take i input)) in
@@ -63,18 +68,18 @@ module _ (input : List ℕ) (i : ℕ) (h : i < length input) where
         order = omega (arith, s.order);
         inside = omega arith;
         line = begun_next ∙ longer ∙ ap (λ (l : List ℕ). l ++ (get_or input i 0 ∷ [])) s.line ∙ rw add-one (sym (part_more input begin i s.order h));
-        bytes = s.bytes ∙ ap (λ (l : List ℕ). out ++ l) (sym all);
+        bytes = s.bytes ∙ sym all;
+        end = s.end ∙ ap length (sym all);
         room = s.room;
       }
 
--- the whole input
-pub all_written : (input out out' : List ℕ) (begin i : ℕ) → length input ≤ i → SoFar input out out' begin i → out' ≡ out ++ written [] input
-all_written input out out' begin i h s = s.bytes ∙ ap (λ (l : List ℕ). out ++ written [] l) (take_all i input h)
-
-pub all_begun : (input out out' : List ℕ) (begin i : ℕ) → length input ≤ i → SoFar input out out' begin i → drop begin input ≡ begun [] input
-all_begun input out out' begin i h s =
+pub all_passed : (input out : List ℕ) (pass : Pass) (i : ℕ) → length input ≤ i → SoFar input out pass.begin pass.written i → Passed input out pass
+all_passed input out pass i h s =
+    let whole = take_all i input h in
     let all : i ≡ length input = omega (arith, s.inside) in
-    sym (rest_whole begin input)
-    ∙ ap (λ (n : ℕ). take (n - begin) (drop begin input)) (sym all)
-    ∙ sym s.line
-    ∙ ap (begun []) (take_all i input h)
+    record {
+      answers =
+          holding out (written [] input) pass.written (s.bytes ∙ ap (written []) whole) (s.end ∙ ap (λ (l : List ℕ). length (written [] l)) whole);
+      rest = sym (rest_whole pass.begin input) ∙ ap (λ (n : ℕ). take (n - pass.begin) (drop pass.begin input)) (sym all) ∙ sym s.line ∙ ap (begun []) whole;
+      inside = omega (arith, s.order);
+    }

@@ -1,6 +1,7 @@
 pub mod LineLength
+pub mod Placed
+pub mod Holding
 pub mod Appended
 pub mod Ended
 pub mod Last
 pub mod Pieces
-pub mod Front

@@ -1,18 +1,21 @@
--- How long a line of output is. Assumes nothing.
-use mathlib.Core.Path.{◌≡◌, refl}
+-- How long a line of output is, and how it stands in an `Output`. Assumes nothing.
+use mathlib.Core.Path.{◌≡◌, refl, sym, subst}
 use mathlib.Core.Bool.{Bool, true, false, cond, ◌&&◌}
 use mathlib.Core.Logic.{◌⊎◌, inl, inr, ⊎_elim}
 use mathlib.Core.List.{List}
-use Prim.Native.Nat.{ℕ, ◌+◌, ◌*◌, ◌≤◌}
+use Prim.Native.Nat.{ℕ, ◌+◌, ◌-◌, ◌*◌, ◌≤◌}
 use native.Mathlib.Omega.{arith}
 use borrow.Author.Tests.{eqb-true}
 use lib.Dec.{eqb}
-use lib.ListN.{length, get_or, take, drop, length-append}
+use lib.ListN.{length, get_or, take, drop, replicate, length-append, length-replicate}
+use lib.Seq.{take_at}
 use Rattle.digits.proofs.Tests.{and_both}
 use Rattle.definitions.specs.declared.Kind.TheVariants.{Truncated}
 use Rattle.definitions.specs.Format.{binary64}
 use Rattle.definitions.specs.Remainder.{Remainder, remainder}
 use Rattle.definitions.specs.Line.{all_hex, hex_value, well_formed, answer_line, bad_line, line_for, answered}
+use Rattle.lines.specs.Output.{output_of}
+use Rattle.lines.specs.declared.output.Output.{Output}
 
 answer_length : (r : Remainder) → length (answer_line r) ≡ 20
 unfolding answer_line
@@ -37,9 +40,29 @@ either_length l = go (well_formed l) (well_formed_length l)
     go true w = inl (answer_length r, w refl)
     go false w = inr refl
 
-pub line_length : (l : List ℕ) → length (line_for l) ≤ 20
+line_length : (l : List ℕ) → length (line_for l) ≤ 20
 line_length l = ⊎_elim (λ e. omega arith) (λ e. omega arith) (either_length l)
 
 -- no line of output is longer than nine times its line of input
 pub answered_length : (l : List ℕ) → length (answered l) ≤ 9 * (length l + 1)
 answered_length l = rw (length-append (line_for l)) (⊎_elim (λ e. omega arith) (λ e. omega arith) (either_length l))
+
+-- the parts of an `Output` that holds the line of an answer
+pub record Shows (o : Output) (l : List ℕ) : Type 0 where
+  pub bytes : length o.bytes ≡ 20
+  pub len : o.len ≡ length l
+  pub short : length l ≤ 20
+  pub line : take o.len o.bytes ≡ l
+
+shown : (l : List ℕ) → length l ≤ 20 → Shows (output_of l) l
+unfolding output_of
+shown l h =
+    record {
+      bytes = rw (length-append l, length-replicate) (omega arith);
+      len = refl;
+      short = h;
+      line = take_at l (replicate (20 - length l) 0) (length l) refl;
+    }
+
+pub shows : (l : List ℕ) (o : Output) → o ≡ output_of (line_for l) → Shows o (line_for l)
+shows l o e = subst (λ (p : Output). Shows p (line_for l)) (sym e) (shown (line_for l) (line_length l))

@@ -1,71 +1,86 @@
 // A whole input answered piece by piece: a read may cut a line anywhere. Only the program over this crate calls these functions, with
-// room of its own that is large enough.
+// buffers of its own that are long enough; what a buffer holds past the part that is stated is free.
 #![tactic(auto)]
 
-ghost use Rattle.std.specs.Prelude.{◌≡◌, ◌+◌, ◌*◌, ◌≤◌, [], ◌++◌, length, take, drop};
-ghost use Rattle.arrayvec.specs.ArrayVec.{array_vec_len};
-ghost use Rattle.definitions.specs.Line.{answered, written, begun, last_written};
-ghost use Rattle.stream.specs.Stream.{kept_bytes};
+ghost use Rattle.std.specs.Prelude.{◌≡◌, ◌+◌, ◌-◌, ◌*◌, ◌≤◌, min, length, take, drop};
+ghost use Rattle.definitions.specs.Line.{last_written};
+ghost use Rattle.stream.specs.Stream.{kept_bytes, BeginsWith, Put, Passed, Turned};
 
-use arrayvec::ArrayVec;
 use lines::answer_line;
 
-// A line of input answered, with a newline.
-fn answer<const CAP: usize>(line: &[u8], out: &mut ArrayVec<u8, CAP>)
-    requires { array_vec_len out.old + 21 ≤ CAP }
-    ensures { out.new.items ≡ out.old.items ++ answered line.now }
+// A line of input answered at a place of `out`, with a newline, and the place after that.
+fn answer_at(out: &mut [u8], at: usize, line: &[u8]) -> usize
+    requires { at + 21 ≤ length out.old }
+    ensures { Put line.now out.old out.new at result }
 {
-    out.try_extend_from_slice(&answer_line(line)).unwrap();
-    out.push(b'\n');
+    let answer = answer_line(line);
+    let end = at + answer.len;
+    out[at..at + 20].copy_from_slice(&answer.bytes);
+    out[end] = b'\n';
+    end + 1
 }
 
-// Every line that ends in an input answered, and where the line begins that has not ended.
-fn answer_ended<const CAP: usize>(input: &[u8], out: &mut ArrayVec<u8, CAP>) -> usize
-    requires { array_vec_len out.old + 9 * length input.now + 12 ≤ CAP }
-    ensures answers { out.new.items ≡ out.old.items ++ written [] input.now }
-    ensures rest { drop result input.now ≡ begun [] input.now }
-    ensures inside { result ≤ length input.now }
+// Where the last line of an input begins, and how many bytes were put into `out`.
+#[derive(Clone, Copy)]
+pub struct Pass {
+    pub begin: usize,
+    pub written: usize,
+}
+
+// Every line that ends in an input, answered at the start of `out`.
+fn answer_ended(input: &[u8], out: &mut [u8]) -> Pass
+    requires { 9 * length input.now + 12 ≤ length out.old }
+    ensures { Passed input.now out.new result }
 {
     let mut begin = 0;
+    let mut at = 0;
     for (i, c) in input.iter().enumerate() {
         if *c == b'\n' {
-            answer(&input[begin..i], out);
+            at = answer_at(out, at, &input[begin..i]);
             begin = i + 1;
         }
     }
-    begin
+    Pass { begin, written: at }
 }
 
-// What comes from `begin` on, as much of it as is kept.
-fn keep<const CAP: usize>(input: &mut ArrayVec<u8, CAP>, begin: usize)
-    requires { begin ≤ array_vec_len input.old }
-    ensures { input.new.items ≡ take kept_bytes (drop begin input.old.items) }
+// The bytes from `begin` to `end` moved to the front, as many as are kept.
+fn keep(buffer: &mut [u8], begin: usize, end: usize) -> usize
+    requires { (begin ≤ end) × (end ≤ length buffer.old) }
+    ensures { (result ≡ min kept_bytes (end - begin)) × (take result buffer.new ≡ take result (drop begin buffer.old)) }
 {
-    let kept = (input.len() - begin).min(34);
-    input.copy_within(begin..begin + kept, 0);
-    input.truncate(kept);
+    let kept = (end - begin).min(34);
+    buffer.copy_within(begin..begin + kept, 0);
+    kept
 }
 
-// Every line that ends in an input answered. What is kept of a line that has begun stays, for more input to come after it.
-pub fn answer_lines<const IN: usize, const OUT: usize>(
-    input: &mut ArrayVec<u8, IN>,
-    out: &mut ArrayVec<u8, OUT>,
-)
-    requires { array_vec_len out.old + 9 * array_vec_len input.old + 12 ≤ OUT }
-    ensures answers { out.new.items ≡ out.old.items ++ written [] input.old.items }
-    ensures rest { input.new.items ≡ take kept_bytes (begun [] input.old.items) }
-    ensures short { array_vec_len input.new ≤ kept_bytes }
+// How many bytes are to be written, and how many of a line that has begun are kept.
+#[derive(Clone, Copy)]
+pub struct Turn {
+    pub written: usize,
+    pub kept: usize,
+}
+
+// The first `filled` bytes of a buffer answered. What is kept goes to its front, for more input to come after it. A caller lends any
+// slices that are long enough.
+pub fn answer_lines(buffer: &mut [u8], filled: usize, out: &mut [u8]) -> Turn
+    requires { (filled ≤ length buffer.old) × (9 * filled + 12 ≤ length out.old) }
+    ensures { Turned (take filled buffer.old) buffer.new out.new result }
 {
-    let begin = answer_ended(input, out);
-    keep(input, begin);
+    let pass = answer_ended(&buffer[..filled], out);
+    let kept = keep(buffer, pass.begin, filled);
+    Turn {
+        written: pass.written,
+        kept,
+    }
 }
 
 // The last line, which needs no newline, answered.
-pub fn answer_last<const CAP: usize>(line: &[u8], out: &mut ArrayVec<u8, CAP>)
-    requires { array_vec_len out.old + 21 ≤ CAP }
-    ensures { out.new.items ≡ out.old.items ++ last_written line.now }
+pub fn answer_last(line: &[u8], out: &mut [u8]) -> usize
+    requires { 21 ≤ length out.old }
+    ensures { BeginsWith out.new (last_written line.now) result }
 {
-    if !line.is_empty() {
-        answer(line, out);
+    if line.is_empty() {
+        return 0;
     }
+    answer_at(out, 0, line)
 }
