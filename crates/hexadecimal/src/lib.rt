@@ -2,7 +2,7 @@
 #![tactic(auto)]
 
 ghost use Rattle.std.specs.Prelude.{◌≡◌, ◌%◌, ◌<◌, IsTrue};
-ghost use Rattle.definitions.specs.Line.{is_hex, digit_of, upper_hex};
+ghost use Rattle.definitions.specs.Line.{is_hex, digit_of, all_hex, upper_hex};
 ghost use Rattle.hexadecimal.specs.Field.{field_of};
 
 // The digit that a byte is, or any where it is none. A letter of either case is above 64, and ends in the bits of 1 to 6: no branch is
@@ -14,21 +14,30 @@ fn digit_value(c: u8) -> u8
     (c % 16 + c / 64 * 9) % 16
 }
 
-// The number that 16 hex digits stand for. All are read before it is told: nothing foretells which bytes are letters, and with a `?` at
-// each digit the program took half as long again.
+// Whether all bytes are hex digits. All are read before it is told: nothing foretells which bytes are letters, and with a `?` at each
+// digit the program took half as long again.
+fn are_digits(bytes: &[u8]) -> bool
+    ensures { result ≡ all_hex bytes.now }
+{
+    let mut are_digits = true;
+    for c in bytes {
+        are_digits &= c.is_ascii_hexdigit();
+    }
+    are_digits
+}
+
+// The number that 16 hex digits stand for. A field that has another byte is refused before any digit is taken for its value.
 pub fn read_field(digits: &[u8]) -> Option<u64>
     ensures { result ≡ field_of digits.now }
 {
-    if digits.len() != 16 {
+    if digits.len() != 16 || !are_digits(digits) {
         return None;
     }
     let mut n: u64 = 0;
-    let mut are_digits = true;
     for c in digits {
-        are_digits &= c.is_ascii_hexdigit();
         n = n * 16 + u64::from(digit_value(*c));
     }
-    are_digits.then_some(n)
+    Some(n)
 }
 
 // The lowest digit of a number, in upper case; `char::from_digit` has the letters in lower case.
