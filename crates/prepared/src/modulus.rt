@@ -36,7 +36,7 @@ impl Prepared {
     }
 
     // a × 2^shift.
-    pub fn near_digit(self, a: u64, shift: u32) -> Quotient
+    pub(crate) fn near_digit(self, a: u64, shift: u32) -> Quotient
         requires { (a < 2 ^ 53) × (shift ≤ 61) }
         ensures { (result.quotient * self.significand + result.remainder ≡ a * 2 ^ shift) × (result.remainder < self.significand + self.significand) }
     {
@@ -45,7 +45,7 @@ impl Prepared {
 
     // a × n × 2^shift, where `power` stands for n: both leave the same modulo m. What that loses of the quotient is a multiple of 2^shift, and
     // so of 8. What the first digit leaves has 55 digits at most.
-    pub fn far_digit(self, a: u64, power: u64, shift: u32) -> Quotient
+    pub(crate) fn far_digit(self, a: u64, power: u64, shift: u32) -> Quotient
         requires { (a < 2 ^ 53) × (power < 2 ^ 54) × (3 ≤ shift) × (shift ≤ 61) }
         ensures { ((n : ℕ) → n % self.significand ≡ power % self.significand → Shows (a * n * 2 ^ shift) self.significand result.quotient result.remainder) × (result.remainder < self.significand + self.significand) }
     {
@@ -57,7 +57,7 @@ impl Prepared {
     }
 
     // 58 places more.
-    pub fn next_power(self, power: u64) -> u64
+    pub(crate) fn next_power(self, power: u64) -> u64
         requires { power < self.significand + self.significand }
         ensures { (result < self.significand + self.significand) × (result % self.significand ≡ power * 2 ^ 58 % self.significand) }
     {
