@@ -40,7 +40,7 @@ either_length l = go (well_formed l) (well_formed_length l)
     go true w = inl (answer_length r, w refl)
     go false w = inr refl
 
-line_length : (l : List ℕ) → length (line_for l) ≤ 20
+pub line_length : (l : List ℕ) → length (line_for l) ≤ 20
 line_length l = ⊎_elim (λ e. omega arith) (λ e. omega arith) (either_length l)
 
 -- no line of output is longer than nine times its line of input

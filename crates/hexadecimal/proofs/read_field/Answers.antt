@@ -1,7 +1,7 @@
 -- `read_field` meets its contract, digit by digit.
 use mathlib.Core.Path.{sym, ◌∙◌}
 use native.Mathlib.Omega.{arith}
-use Rattle.hexadecimal.proofs.HexDigits.{value_fits, field_told, no_field, no_digits}
+use Rattle.hexadecimal.proofs.HexDigits.{value_fits, field_read, no_field, no_digits}
 use Rattle.hexadecimal.proofs.read_field.Goals as goal
 use Rattle.hexadecimal.proofs.read_field.Goals.{then-digits-ne16-via-then-digits-ne16, then-digits-ne16-via-else-digits-ne16+then-not-are_digits}
 
@@ -26,4 +26,4 @@ overflow_add-n c =
 pub returns : goal.returns
 returns c =
     let l = c.loop-c in
-    field_told c.args.digits.now l.n l.c-index c.if-digits-ne16.false (omega arith) (sym c.are_digits.ensures ∙ c.if-not-are_digits.false) l.invariant.2
+    field_read c.args.digits.now l.n l.c-index c.if-digits-ne16.false (omega arith) (sym c.are_digits.ensures ∙ c.if-not-are_digits.false) l.invariant.2
